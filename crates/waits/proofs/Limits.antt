@@ -35,13 +35,14 @@ module _ (s : RequestRto) where
 
 pub within-limits : (s : RequestRto) → (withinLimits s ≡ true) ↔ Limits s
 unfolding withinLimits
-within-limits s =
-    (λ e.
-    let a = and-eq-true-iff _ _ .0 e in
-    let b = and-eq-true-iff _ _ .0 (a .1) in
-    let c = and-eq-true-iff _ _ .0 (b .1) in
-    record { count = leb-true _ _ (a .0); initial = leb-true _ _ (b .0); most = leb-true _ _ (c .0); last = leb-true _ _ (c .1) },
-    λ l. simp (le-leb _ _ (l .count), le-leb _ _ (l .initial), le-leb _ _ (l .most), le-leb _ _ (l .last)))
+within-limits s = (
+  λ e.
+      let a = and-eq-true-iff _ _ .0 e in
+      let b = and-eq-true-iff _ _ .0 (a .1) in
+      let c = and-eq-true-iff _ _ .0 (b .1) in
+      record { count = leb-true _ _ (a .0); initial = leb-true _ _ (b .0); most = leb-true _ _ (c .0); last = leb-true _ _ (c .1) },
+  λ l. simp (le-leb _ _ (l .count), le-leb _ _ (l .initial), le-leb _ _ (l .most), le-leb _ _ (l .last)),
+)
 
 module _ {s : RequestRto} (l : Limits s) where
   pub waits-most : (t : Transport) → waitsOf t s ≤ 32

@@ -2,7 +2,7 @@
 use Prim.Native.Nat.{ℕ, _+_, _*_, _^_, _<_}
 use mathlib.Core.List.{List, [], _∷_}
 use mathlib.Core.Bool.{Bool, true, false, cond}
-use lib.ListN.{length, getD}
+use lib.ListN.{length, getD, take, drop}
 use lib.Dec.{ltb, eqb}
 
 -- The number in the 2, 4 or 8 bytes from place i on, the first byte heaviest.
@@ -15,6 +15,10 @@ be32 s i = be16 s i * 65536 + be16 s (i + 2)
 abbrev pub be64 : List ℕ → ℕ → ℕ
 be64 s i = be32 s i * 4294967296 + be32 s (i + 4)
 
+-- The n bytes from place i on, or as many as there are.
+abbrev pub bytesAt : List ℕ → ℕ → ℕ → List ℕ
+bytesAt s i n = take n (drop i s)
+
 -- The number that a string of bytes spells, whatever its length.
 unfoldable pub number : List ℕ → ℕ
 number [] = 0
@@ -25,7 +29,7 @@ abbrev pub Bytes : List ℕ → Type 0
 Bytes [] = Unit
 Bytes (b ∷ bs) = (b < 256) × Bytes bs
 
--- The order of two strings by their first differing byte, and whether they are the same; of strings of one length.
+-- Whether the first of two strings of one length is the lesser, by their first differing byte.
 unfoldable pub firstLess : List ℕ → List ℕ → Bool
 firstLess [] bs = false
 firstLess (a ∷ as′) [] = false

@@ -1,0 +1,2 @@
+-- The specimens hold.
+mod Hold

@@ -1,0 +1,3 @@
+-- Laws about the definitions of specs/. `Arms` serves this crate's proofs.
+mod Arms
+pub mod Query

@@ -2,6 +2,7 @@
 use mathlib.Core.Path.{_≡_, refl, sym}
 use mathlib.Core.Bool.{true, false}
 use Prim.Native.Nat.{ℕ, zero, suc, _+_, _-_, _*_, _/_, _≤_, _<_}
+use native.Mathlib.Nat.{le-div-iff-mul-le, div-lt-iff-lt-mul}
 use native.Mathlib.Omega.{arith}
 use lib.Dec.{leb}
 use borrow.Author.Tests.{le-leb, lt-leb}
@@ -33,3 +34,15 @@ module _ (s : StunAgentStats) where
       let fits : settled s ≤ s .«requests_sent» = omega arith in
       let rest : s .«requests_sent» - settled s ≡ left = omega arith in
       simp (le-leb _ _ fits, rest)
+
+-- The average is the floor: no more than the sum, counted as often as there are samples, and one more would pass it.
+pub average-floor : (s : StunAgentStats) (q : ℕ) → averageOf s ≡ Nanos q → (q * s .«rtt_count» ≤ s .«rtt_sum») × (s .«rtt_sum» < (q + 1) * s .«rtt_count»)
+unfolding averageOf
+average-floor s q e = go (s .«rtt_sum») (s .«rtt_count») e
+  where
+    go : (sum n : ℕ) → average sum n ≡ Nanos q → (q * n ≤ sum) × (sum < (q + 1) * n)
+    go sum zero e = absurd (let z : _≡_ {A = ℕ} 0 1 = cc in omega arith)
+    go sum (suc n) e =
+        let d : sum / suc n ≡ q = cc in
+        let some : 0 < suc n = omega arith in
+        (le-div-iff-mul-le {k = suc n} {x = q} {y = sum} some .0 (omega arith), div-lt-iff-lt-mul {k = suc n} {x = sum} {y = q + 1} some .0 (omega arith))

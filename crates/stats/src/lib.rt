@@ -259,7 +259,8 @@ impl StunAgentStats {
             Event::IndicationSent(bytes) => self.record_indication_sent(bytes),
             Event::IndicationReceived(bytes) => self.record_indication_received(bytes),
             Event::ResponseSent(bytes) => self.record_response_sent(bytes),
-            Event::ResponseReceived(bytes, rtt) => self.record_rtt_if_any(rtt).record_response_received(bytes),
+            Event::ResponseReceived(bytes, rtt) => self.record_rtt_if_any(rtt)
+                .record_response_received(bytes),
             Event::RetransmitBytes(bytes) => self.record_retransmit_bytes(bytes),
             Event::TimedOut => self.record_timeout(),
             Event::Cancelled => self.record_cancelled(),

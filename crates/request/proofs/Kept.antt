@@ -1,7 +1,8 @@
 -- What a request keeps over each change, and that a new request and its first `poll_transmit` together are the request as submitted.
-use mathlib.Core.Path.{_≡_, refl}
+use mathlib.Core.Path.{_≡_, refl, ap, _∙_}
 use mathlib.Core.Bool.{Bool, true, false, cond, not, _&&_}
 use Prim.Native.Nat.{ℕ}
+use native.Mathlib.Omega.{arith}
 use Rattle.address.specs.declared.Address.{Address}
 use Rattle.message.specs.declared.TransactionId.{TransactionId}
 use Rattle.message.specs.declared.Integrity.{Integrity}
@@ -15,12 +16,27 @@ use Rattle.request.proofs.Answers.{after-exactly}
 use Rattle.request.specs.declared.SendTimes.{SendTimes}
 use Rattle.request.specs.declared.SendTimes.the-variants.{Never, Sent}
 use Rattle.request.specs.declared.StunRequestState.{StunRequestState}
-use Rattle.request.specs.declared.StunRequestTransmit.the-variants.{Goes}
+use Rattle.request.specs.declared.StunRequestTransmit.{StunRequestTransmit}
+use Rattle.request.specs.declared.StunRequestTransmit.the-variants.{Rests, Passes, Goes}
 
 pub submitted-goes : (t : Transport) (now : ℕ) (id : TransactionId) (integrity : Integrity) (row len : ℕ) (to : Address) (rto : RequestRto)
     → transmitOf t now (newRequest id integrity row len to rto) ≡ Goes (submitted now id integrity row len to rto)
 unfolding transmitOf isDue stepped newRequest submitted
 submitted-goes t now id integrity row len to rto = refl
+
+-- So the first `poll_transmit` of a new request has one answer.
+module _ (t : Transport) (now : ℕ) (id : TransactionId) (integrity : Integrity) (row len : ℕ) (to : Address) (rto : RequestRto) (r : StunRequestState) {a : StunRequestTransmit} (new : r ≡ newRequest id integrity row len to rto) (answer : a ≡ transmitOf t now r) where
+  goes : a ≡ Goes (submitted now id integrity row len to rto)
+  goes = answer ∙ ap (transmitOf t now) new ∙ submitted-goes t now id integrity row len to rto
+
+  pub never-rests : a ≡ Rests → ⊥
+  never-rests e = let g = goes in let z : _≡_ {A = ℕ} 0 1 = cc in omega arith
+
+  pub never-passes : (q : StunRequestState) → a ≡ Passes q → ⊥
+  never-passes q e = let g = goes in let z : _≡_ {A = ℕ} 0 1 = cc in omega arith
+
+  pub goes-submitted : (q : StunRequestState) → a ≡ Goes q → q ≡ submitted now id integrity row len to rto
+  goes-submitted q e = let g = goes in cc
 
 module _ (r : StunRequestState) where
   pub same-itself : SameRequest r r

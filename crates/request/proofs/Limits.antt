@@ -3,10 +3,11 @@
 --     within-limits                        the test holds exactly where the limits do
 --     last-most, first-most, steps-left    the times, and the count where steps are left
 --     limits-later, .., transmit-limits    a later mark; a new request; each change of a request
+--     due-most, end-most                   no sum is near 64 bits
 use mathlib.Core.Path.{_≡_, refl}
 use mathlib.Core.Bool.{Bool, true, false, cond, not, _&&_, and-eq-true-iff}
 use mathlib.Core.Logic.{_↔_}
-use Prim.Native.Nat.{ℕ, _+_, _≤_, _<_}
+use Prim.Native.Nat.{ℕ, _+_, _^_, _≤_, _<_}
 use native.Mathlib.Omega.{arith}
 use lib.Dec.{leb, ltb}
 use borrow.Author.Tests.{le-leb, lt-leb, lt-ltb, le-ltb, leb-true, leb-false, ltb-true, not-true}
@@ -17,9 +18,9 @@ use Rattle.waits.specs.Waits as waits
 use Rattle.waits.specs.declared.RequestRto.{RequestRto}
 use Rattle.waits.specs.declared.Transport.{Transport}
 use Rattle.waits.proofs.Limits as waits-limits
-use Rattle.request.specs.Times.{passedAll, dueOf, dueBy, isDue}
+use Rattle.request.specs.Times.{passedAll, dueOf, endOf, dueBy, isDue}
 use Rattle.request.specs.Request.{newRequest, submitted, steppedBy, stepped, silenced, cancelled, configured, transmitOf}
-use Rattle.request.specs.Limits.{TimesLimits, RequestLimits, timesWithin, withinLimits}
+use Rattle.request.specs.Limits.{NewLimits, TimesLimits, RequestLimits, timesWithin, withinLimits}
 use Rattle.request.specs.Answers.{recordAfter}
 use Rattle.request.proofs.Answers.{after-exactly}
 use Rattle.request.specs.declared.SendTimes.{SendTimes}
@@ -135,19 +136,26 @@ module _ (rows mark later : ℕ) (r : StunRequestState) (h : mark ≤ later) (l 
   }
 
 -- A new request, and one as submitted at a clock.
-module _ (rows : ℕ) (id : TransactionId) (integrity : Integrity) (row len : ℕ) (to : Address) (rto : RequestRto) (least : 20 ≤ len) (most : len ≤ 1024) (is-row : row < rows) (settings : waits.Limits rto) where
+module _ (rows : ℕ) (id : TransactionId) (integrity : Integrity) (row len : ℕ) (to : Address) (rto : RequestRto) (n : NewLimits rows row len rto) where
   pub new-limits : (mark : ℕ) → RequestLimits rows mark (newRequest id integrity row len to rto)
   unfolding newRequest
-  new-limits mark = record { least = least; most = most; row = is-row; count = omega arith; settings = settings; times = tt }
+  new-limits mark = record {
+    least = n .least;
+    most = n .most;
+    row = n .is-row;
+    count = omega arith;
+    settings = n .settings;
+    times = tt;
+  }
 
   pub submitted-limits : (now : ℕ) → RequestLimits rows now (submitted now id integrity row len to rto)
   unfolding submitted
   submitted-limits now = record {
-    least = least;
-    most = most;
-    row = is-row;
+    least = n .least;
+    most = n .most;
+    row = n .is-row;
     count = omega arith;
-    settings = settings;
+    settings = n .settings;
     times = (omega arith, omega arith);
   }
 
@@ -198,3 +206,15 @@ module _ (rows mark : ℕ) (r : StunRequestState) (l : RequestLimits rows mark r
         go : (b : Bool) → (not (r .«recv_cancelled») && isDue t now r) ≡ b → RequestLimits rows now (cond b (stepped now r) r)
         go true e = stepped-limits (and-eq-true-iff (not (r .«recv_cancelled»)) (isDue t now r) .0 e .1)
         go false e = limits-later rows mark now r h l
+
+-- No sum of a request within its limits passes 2^60 + 2^61.
+module _ (rows : ℕ) (r : StunRequestState) (l : RequestLimits rows (2 ^ 60) r) where
+  pub due-most : (first last : ℕ) → r .«send_times» ≡ Sent first last → dueOf r last ≤ 2 ^ 60 + 2 ^ 61
+  unfolding dueOf
+  due-most first last e =
+      omega (arith, last-most rows (2 ^ 60) r l first last e, waits-limits.wait-most (l .settings) (r .«timeout_i»))
+
+  pub end-most : (t : Transport) (first last : ℕ) → r .«send_times» ≡ Sent first last → endOf t r last ≤ 2 ^ 60 + 2 ^ 61
+  unfolding endOf
+  end-most t first last e =
+      omega (arith, last-most rows (2 ^ 60) r l first last e, waits-limits.final-most (l .settings) t)

@@ -4,9 +4,17 @@ use Prim.Native.Nat.{ℕ, _≤_, _<_}
 use mathlib.Core.Bool.{Bool, true, _&&_}
 use lib.Dec.{leb, ltb}
 use Rattle.waits.specs.Waits as waits
+use Rattle.waits.specs.declared.RequestRto.{RequestRto}
 use Rattle.request.specs.declared.SendTimes.{SendTimes}
 use Rattle.request.specs.declared.SendTimes.the-variants.{Never, Sent}
 use Rattle.request.specs.declared.StunRequestState.{StunRequestState}
+
+-- What a new request has to have: a message of 20 to 1,024 bytes, a row, and settings within limits.
+pub record NewLimits (rows row len : ℕ) (rto : RequestRto) : Type 0 where
+  pub least : 20 ≤ len
+  pub most : len ≤ 1024
+  pub is-row : row < rows
+  pub settings : waits.Limits rto
 
 -- "First and last send both present or both absent, not above the mark, first not above last."
 abbrev pub TimesLimits : ℕ → SendTimes → Type 0

@@ -13,10 +13,9 @@ use waits::Transport;
 ghost use mathlib.Core.Path.{_≡_};
 ghost use mathlib.Core.Bool.{_&&_};
 ghost use Prim.Native.Nat.{_^_, _≤_, _<_};
-ghost use Rattle.waits.specs.Waits.{Limits};
 ghost use Rattle.request.specs.Times.{passedAll, nextOf, rttOf};
 ghost use Rattle.request.specs.Request.{newRequest, submitted, withTimes, stepped, silenced, cancelled, configured, transmitOf, pollOf};
-ghost use Rattle.request.specs.Limits.{timesWithin, withinLimits, RequestLimits};
+ghost use Rattle.request.specs.Limits.{NewLimits, timesWithin, withinLimits, RequestLimits};
 
 // `first_send_time` and `last_send_time`: both absent or both present.
 pub enum SendTimes {
@@ -96,6 +95,29 @@ impl StunRequestState {
             send_cancelled: false,
             timeout_i: 0,
             send_times: SendTimes::Never,
+        }
+    }
+
+    // What `send_request` does with a new request: its first `poll_transmit` hands it out, so that the Rust's `unreachable!()` is so.
+    pub fn submitted(
+        transport: Transport,
+        now: u64,
+        transaction_id: TransactionId,
+        request_integrity: Integrity,
+        row: usize,
+        len: usize,
+        to: Address,
+        rto: RequestRto,
+    ) -> Self
+        requires { ⌜ NewLimits 32 row len rto ⌝ }
+        ensures { λ r. ⌜ r ≡ submitted now «transaction_id» «request_integrity» row len to rto ⌝ }
+    {
+        let request = Self::new(transaction_id, request_integrity, row, len, to, rto);
+        let first = request.poll_transmit(transport, now);
+        match first {
+            StunRequestTransmit::Rests => request,
+            StunRequestTransmit::Passes(_) => request,
+            StunRequestTransmit::Goes(sent) => sent,
         }
     }
 
@@ -237,7 +259,7 @@ impl StunRequestState {
         let NextSend::At(next_send) = next else {
             return StunRequestTransmit::Rests;
         };
-        if next_send > now {
+        if now < next_send {
             return StunRequestTransmit::Rests;
         }
         let after = self.stepped(now);

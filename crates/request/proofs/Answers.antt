@@ -1,0 +1,61 @@
+-- What the answers say, by tests of the record: nothing above has to take `transmitOf` or `pollOf` apart.
+--     goes-exactly, after-exactly    when a request goes out, and the record after `poll_transmit`
+--     ends-exactly, wait-clock       when `poll` reports a request, and the clock to wait for otherwise
+use mathlib.Core.Path.{_≡_, refl}
+use mathlib.Core.Bool.{Bool, true, false, cond, not, _&&_, _||_}
+use Prim.Native.Nat.{ℕ, max}
+use native.Mathlib.Omega.{arith}
+use Rattle.waits.specs.declared.Transport.{Transport}
+use Rattle.request.specs.Times.{passedAll, isDue, isOver, momentOf}
+use Rattle.request.specs.Request.{stepped, transmitOf, pollOf}
+use Rattle.request.specs.Answers.{goesOut, recordAfter, ends, waitClock}
+use Rattle.request.specs.declared.StunRequestState.{StunRequestState}
+use Rattle.request.specs.declared.StunRequestPollRet.the-variants.{WaitUntil, Cancelled, TimedOut}
+use Rattle.request.specs.declared.StunRequestTransmit.the-variants.{Rests, Passes, Goes}
+
+apart : true ≡ false → ⊥
+apart e = let z : _≡_ {A = ℕ} 0 1 = cc in omega arith
+
+module _ (t : Transport) (now : ℕ) (r : StunRequestState) where
+  pub goes-exactly : goesOut (transmitOf t now r) ≡ (not (r .«recv_cancelled») && (isDue t now r && not (r .«send_cancelled»)))
+  unfolding transmitOf
+  goes-exactly = go (r .«recv_cancelled») (isDue t now r) (r .«send_cancelled») (stepped now r)
+    where
+      go : (recv due send : Bool) (q : StunRequestState)
+          → goesOut (cond recv Rests (cond due (cond send (Passes q) (Goes q)) Rests)) ≡ (not recv && (due && not send))
+      go true due send q = refl
+      go false true true q = refl
+      go false true false q = refl
+      go false false send q = refl
+
+  pub after-exactly : recordAfter r (transmitOf t now r) ≡ cond (not (r .«recv_cancelled») && isDue t now r) (stepped now r) r
+  unfolding transmitOf
+  after-exactly = go (r .«recv_cancelled») (isDue t now r) (r .«send_cancelled») (stepped now r)
+    where
+      go : (recv due send : Bool) (q : StunRequestState)
+          → recordAfter r (cond recv Rests (cond due (cond send (Passes q) (Goes q)) Rests)) ≡ cond (not recv && due) q r
+      go true due send q = refl
+      go false true true q = refl
+      go false true false q = refl
+      go false false send q = refl
+
+  pub ends-exactly : ends (pollOf t now r) ≡ (r .«recv_cancelled» || (isOver t now r || (r .«send_cancelled» && passedAll t r)))
+  unfolding pollOf
+  ends-exactly = go (r .«recv_cancelled») (isOver t now r) (r .«send_cancelled» && passedAll t r) (max now (momentOf t now r))
+    where
+      go : (recv over out : Bool) (m : ℕ) → ends (cond recv Cancelled (cond over TimedOut (cond out Cancelled (WaitUntil m)))) ≡ (recv || (over || out))
+      go true over out m = refl
+      go false true out m = refl
+      go false false true m = refl
+      go false false false m = refl
+
+  pub wait-clock : (other : ℕ) → ends (pollOf t now r) ≡ false → waitClock other (pollOf t now r) ≡ max now (momentOf t now r)
+  unfolding pollOf
+  wait-clock other e = go (r .«recv_cancelled») (isOver t now r) (r .«send_cancelled» && passedAll t r) (max now (momentOf t now r)) e
+    where
+      go : (recv over out : Bool) (m : ℕ) → ends (cond recv Cancelled (cond over TimedOut (cond out Cancelled (WaitUntil m)))) ≡ false
+          → waitClock other (cond recv Cancelled (cond over TimedOut (cond out Cancelled (WaitUntil m)))) ≡ m
+      go true over out m e = absurd (apart e)
+      go false true out m e = absurd (apart e)
+      go false false true m e = absurd (apart e)
+      go false false false m e = refl

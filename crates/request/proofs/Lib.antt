@@ -1,0 +1,7 @@
+-- Laws about the definitions of specs/. `Next` serves this crate's proofs.
+mod Next
+mod Specimens
+pub mod Answers
+pub mod Steps
+pub mod Kept
+pub mod Limits

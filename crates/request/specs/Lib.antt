@@ -1,0 +1,5 @@
+pub mod Times
+pub mod Request
+pub mod Limits
+pub mod Answers
+pub mod Kept

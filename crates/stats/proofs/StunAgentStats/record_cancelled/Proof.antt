@@ -1,0 +1,13 @@
+-- `StunAgentStats::record_cancelled` meets its contract: what each call ensures, by congruence. Assumes nothing.
+use borrow.Author.Needs.{needs}
+use Rattle.stats.proofs.StunAgentStats.record_cancelled.Statement.{statement}
+use Rattle.stats.proofs.StunAgentStats.record_cancelled.Tie as tie
+
+add-requires : tie.Need-add-requires
+add-requires c κs = search needs
+
+returns : tie.Need-returns
+returns c = cc
+
+pub record-cancelled-spec : {M : Type 1} → statement M
+record-cancelled-spec = tie.close (tie.spec add-requires returns)

@@ -1,0 +1,16 @@
+-- `StunAgentStats::record_response_received` meets its contract: what each call ensures, by congruence. Assumes nothing.
+use borrow.Author.Needs.{needs}
+use Rattle.stats.proofs.StunAgentStats.record_response_received.Statement.{statement}
+use Rattle.stats.proofs.StunAgentStats.record_response_received.Tie as tie
+
+add-requires : tie.Need-add-requires
+add-requires c κs = search needs
+
+add-requires-2 : tie.Need-add-requires-2
+add-requires-2 c κs = search needs
+
+returns : tie.Need-returns
+returns c = cc
+
+pub record-response-received-spec : {M : Type 1} → statement M
+record-response-received-spec = tie.close (tie.spec add-requires add-requires-2 returns)

@@ -2,3 +2,4 @@
 pub mod Lists
 pub mod Formed
 pub mod Search
+pub mod Free

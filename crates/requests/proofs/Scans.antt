@@ -6,13 +6,16 @@
 --     loud-met                                         of one that isn't silenced: it depends on that request and the clock
 --     poll-timed-out, poll-cancelled, poll-waits       the answers of `poll`
 use Prim.Native.Nat.{ℕ, zero, suc, _+_, _≤_, _<_, min}
-use mathlib.Core.Path.{_≡_, refl, sym, ap, _∙_}
+use mathlib.Core.Path.{_≡_, refl, sym, ap, _∙_, subst}
 use mathlib.Core.Bool.{Bool, true, false, cond, not, _&&_}
 use mathlib.Core.Logic.{_↔_}
 use mathlib.Core.List.{List, [], _∷_, _++_, map}
 use mathlib.Core.Option.{Option, none, some}
 use native.Mathlib.Omega.{arith}
+use lib.Dec.{eqb}
 use lib.ListN.{length, take, drop, getElem?, length-map}
+use borrow.Author.Tests.{eqb-false}
+use Rattle.rows.specs.Lists.{among}
 use Rattle.message.specs.Head.{key}
 use Rattle.waits.specs.declared.Transport.{Transport}
 use Rattle.request.specs.Times.{isDue}
@@ -167,3 +170,84 @@ module _ (t : Transport) (now : ℕ) where
   none-goes-at [] i r b e = none-some e
   none-goes-at (q ∷ qs) zero r b e = rw (some-same e) at (b .0)
   none-goes-at (q ∷ qs) (suc i) r b e = none-goes-at qs i r (b .1) e
+
+-- ---- the request that goes out, afterwards
+
+module _ (t : Transport) (now : ℕ) where
+  -- a record of the same request
+  pub goes-same : (r p : StunRequestState) → transmitOf t now r ≡ Goes p → SameRequest r p
+  goes-same r p e = rw e at (same-transmit r now t)
+
+  passed-placed : (l : List StunRequestState) (i : ℕ) (r p : StunRequestState) (rest : List StunRequestState) → getElem? l i ≡ some r
+      → getElem? (map (passedBy t now) (take i l) ++ (p ∷ rest)) i ≡ some p
+  passed-placed [] i r p rest e = none-some e
+  passed-placed (q ∷ qs) zero r p rest e = refl
+  passed-placed (q ∷ qs) (suc i) r p rest e = passed-placed qs i r p rest e
+
+  module _ (l : List StunRequestState) (p : StunRequestState) (after : List StunRequestState) (s : SentFrom t now l p after) where
+    -- it stands in its place
+    pub sent-placed : getElem? after (s .place) ≡ some p
+    sent-placed = rw (s .becomes) (passed-placed l (s .place) (s .request) p (drop (suc (s .place)) l) (s .placed))
+
+    -- and has the key that it had
+    pub sent-key : keyOf p ≡ keyOf (s .request)
+    sent-key = ap key (goes-same (s .request) p (s .goes) .id)
+
+-- ---- what the scan makes of one request
+
+-- another request than that with the key k goes out, or none
+abbrev pub OtherKey : ℕ → Transmitted → Type 0
+OtherKey k (Sends p) = keyOf p ≡ k → ⊥
+OtherKey k Quiet = Unit
+
+-- r, and what the scan with that answer leaves in its place
+pub data Met (t : Transport) (now : ℕ) (r : StunRequestState) : Transmitted → StunRequestState → Type 0 where
+  sent : {p : StunRequestState} → transmitOf t now r ≡ Goes p → Met t now r (Sends p) p
+  passed : {o : Transmitted} → goesOut (transmitOf t now r) ≡ false → OtherKey (keyOf r) o → Met t now r o (passedBy t now r)
+  unreached : {p : StunRequestState} → (keyOf p ≡ keyOf r → ⊥) → Met t now r (Sends p) r
+
+pub met-same : {t : Transport} {now : ℕ} {r q : StunRequestState} {o : Transmitted} → Met t now r o q → SameRequest r q
+met-same {t} {now} {r} (sent {p} e) = goes-same t now r p e
+met-same {t} {now} {r} (passed e k) = same-transmit r now t
+met-same {r} (unreached k) = same-itself r
+
+module _ (t : Transport) (now : ℕ) where
+  -- no request with the key k: none goes out
+  other-out : (k : ℕ) (l : List StunRequestState) → among k (keysOf l) ≡ false → OtherKey k (walk t now l .out)
+  other-out k [] n = tt
+  other-out k (r ∷ rs) n = go (transmitOf t now r) refl (other-out k rs (p .1))
+    where
+      p : (eqb (keyOf r) k ≡ false) × (among k (keysOf rs) ≡ false)
+      p = neither (eqb (keyOf r) k) (among k (keysOf rs)) n
+
+      go : (s : StunRequestTransmit) → transmitOf t now r ≡ s → OtherKey k (walk t now rs .out) → OtherKey k (met t now s r rs .out)
+      go (Goes q) e ih = λ z. eqb-false (keyOf r) k (p .0) (sym (ap key (goes-same t now r q e .id)) ∙ z)
+      go (Passes q) e ih = ih
+      go Rests e ih = ih
+
+  pub transmit-at : (l : List StunRequestState) (i : ℕ) (r : StunRequestState) → Ascending (keysOf l) → getElem? l i ≡ some r
+      → (q : StunRequestState) × (getElem? (walk t now l .after) i ≡ some q) × Met t now r (walk t now l .out) q
+  transmit-at [] i r s e = none-some e
+  transmit-at (x ∷ xs) zero r s e = rw (some-same e) (go (transmitOf t now r) refl)
+    where
+      absent : OtherKey (keyOf r) (walk t now xs .out)
+      absent = other-out (keyOf r) xs (ascending-absent (keyOf x) (keyOf r) (keysOf xs) s (omega (arith, ap keyOf (some-same e))))
+
+      as-passed : (q : StunRequestState) → passedBy t now r ≡ q → goesOut (transmitOf t now r) ≡ false → Met t now r (walk t now xs .out) q
+      as-passed q z g = subst (λ (u : StunRequestState). Met t now r (walk t now xs .out) u) z (passed g absent)
+
+      go : (a : StunRequestTransmit) → transmitOf t now r ≡ a
+          → (q : StunRequestState) × (getElem? (met t now a r xs .after) 0 ≡ some q) × Met t now r (met t now a r xs .out) q
+      go (Goes p) b = (p, refl, sent b)
+      go (Passes p) b = (p, refl, as-passed p (ap (recordAfter r) b) (ap goesOut b))
+      go Rests b = (r, refl, as-passed r (ap (recordAfter r) b) (ap goesOut b))
+  transmit-at (x ∷ xs) (suc i) r s e =
+      go (transmitOf t now x) refl (transmit-at xs i r (ascending-tail (keyOf x) (keysOf xs) s) e)
+    where
+      go : (a : StunRequestTransmit) → transmitOf t now x ≡ a
+          → (q : StunRequestState) × (getElem? (walk t now xs .after) i ≡ some q) × Met t now r (walk t now xs .out) q
+          → (q : StunRequestState) × (getElem? (met t now a x xs .after) (suc i) ≡ some q) × Met t now r (met t now a x xs .out) q
+      go (Goes p) b ih =
+          (r, e, unreached (λ z. placed-other (keyOf x) i r xs s e (sym (ap key (goes-same t now x p b .id)) ∙ z)))
+      go (Passes p) b ih = ih
+      go Rests b ih = ih

@@ -3,4 +3,5 @@ pub mod Lists
 pub mod Formed
 pub mod Search
 pub mod Free
-pub mod Scans
+pub mod Transmits
+pub mod Polls

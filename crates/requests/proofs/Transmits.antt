@@ -1,10 +1,9 @@
--- What the two scans say, and what `poll_transmit` makes of the list.
---     walk-keys, walk-rows, walk-length, walk-within   what the scan of `poll_transmit` keeps
---     walk-sends, walk-first, sent-placed, sent-key    the request that goes out: the first that would
+-- The scan of `poll_transmit`: what it keeps, which request it hands out, and what it makes of one request.
+--     walk-map, walk-keys, .., walk-within             what it keeps of the list
+--     walk-sends, walk-first, sent-placed, sent-key    the request that goes out is the first that would
 --     quiet-exactly, walk-quiet                        none goes out
---     transmit-at, transmit-found, transmit-none       what the scan makes of one request
---     loud-met                                         of one that isn't silenced: it depends on that request and the clock
---     poll-timed-out, poll-cancelled, poll-waits       the answers of `poll`
+--     transmit-at, transmit-found, transmit-none       what it makes of the request at a place, or with an identifier
+--     loud-stays, loud-met                             of one that isn't silenced: that depends on the request and the clock
 use Prim.Native.Nat.{ℕ, zero, suc, _+_, _≤_, _<_, min}
 use mathlib.Core.Path.{_≡_, refl, sym, ap, _∙_, subst}
 use mathlib.Core.Bool.{Bool, true, false, cond, not, _&&_}
@@ -251,3 +250,61 @@ module _ (t : Transport) (now : ℕ) where
           (r, e, unreached (λ z. placed-other (keyOf x) i r xs s e (sym (ap key (goes-same t now x p b .id)) ∙ z)))
       go (Passes p) b ih = ih
       go Rests b ih = ih
+
+  -- the same of the request with an identifier
+  pub transmit-found : (l : List StunRequestState) (k i : ℕ) (r : StunRequestState) → Ascending (keysOf l) → lookup k l ≡ At i r
+      → (q : StunRequestState) × (lookup k (walk t now l .after) ≡ At i q) × Met t now r (walk t now l .out) q
+  transmit-found l k i r s e =
+      let f = found-at k i r l e in
+      let m = transmit-at l i r s (f .placed) in
+      let same : keyOf (m .0) ≡ k = ap key (met-same (m .2) .id) ∙ f .key-is in
+      let order : Ascending (keysOf (walk t now l .after)) = rw (walk-keys t now l) s in
+      (m .0, rw same at (placed-found i (m .0) (walk t now l .after) order (m .1)), m .2)
+
+  pub transmit-none : (l : List StunRequestState) (k : ℕ) → lookup k l ≡ Nothing
+      → (lookup k (walk t now l .after) ≡ Nothing) × OtherKey k (walk t now l .out)
+  transmit-none l k e =
+      let n : among k (keysOf l) ≡ false = none-exactly k l .0 e in
+      (none-exactly k (walk t now l .after) .1 (rw (walk-keys t now l) n), other-out k l n)
+
+-- ---- a request that isn't silenced
+
+-- it goes out and is stepped, or it stays as it is: another one goes out, or it isn't due and none does
+pub data MetLoud (t : Transport) (now : ℕ) (r : StunRequestState) : Transmitted → StunRequestState → Type 0 where
+  goes : goesOut (transmitOf t now r) ≡ true → MetLoud t now r (Sends (stepped now r)) (stepped now r)
+  other : {p : StunRequestState} → (keyOf p ≡ keyOf r → ⊥) → MetLoud t now r (Sends p) r
+  none-goes : goesOut (transmitOf t now r) ≡ false → MetLoud t now r Quiet r
+
+module _ (t : Transport) (now : ℕ) (r : StunRequestState) where
+  pub goes-stepped : (p : StunRequestState) → transmitOf t now r ≡ Goes p → stepped now r ≡ p
+  unfolding transmitOf
+  goes-stepped p e = go (r .«recv_cancelled») (isDue t now r) (r .«send_cancelled») (stepped now r) e
+    where
+      go : (recv due send : Bool) (q : StunRequestState) → cond recv Rests (cond due (cond send (Passes q) (Goes q)) Rests) ≡ Goes p → q ≡ p
+      go true due send q e = let z : _≡_ {A = ℕ} 0 1 = cc in absurd (omega arith)
+      go false true true q e = let z : _≡_ {A = ℕ} 0 1 = cc in absurd (omega arith)
+      go false true false q e = cc
+      go false false send q e = let z : _≡_ {A = ℕ} 0 1 = cc in absurd (omega arith)
+
+  module _ (loud : r .«send_cancelled» ≡ false) where
+    pub loud-stays : goesOut (transmitOf t now r) ≡ false → passedBy t now r ≡ r
+    unfolding transmitOf
+    loud-stays e = go (r .«recv_cancelled») (isDue t now r) (r .«send_cancelled») (stepped now r) loud e
+      where
+        go : (recv due send : Bool) (q : StunRequestState) → send ≡ false
+            → goesOut (cond recv Rests (cond due (cond send (Passes q) (Goes q)) Rests)) ≡ false
+            → recordAfter r (cond recv Rests (cond due (cond send (Passes q) (Goes q)) Rests)) ≡ r
+        go true due send q f e = refl
+        go false true true q f e = apart f
+        go false true false q f e = apart e
+        go false false send q f e = refl
+
+    pub loud-met : {o : Transmitted} {q : StunRequestState} → Met t now r o q → MetLoud t now r o q
+    loud-met (sent {p} e) =
+        subst (λ (u : StunRequestState). MetLoud t now r (Sends u) u) (goes-stepped p e) (goes (ap goesOut e))
+    loud-met (passed {o} e k) = rw (loud-stays e) (go o k)
+      where
+        go : (o : Transmitted) → OtherKey (keyOf r) o → MetLoud t now r o r
+        go (Sends p) k = other k
+        go Quiet k = none-goes e
+    loud-met (unreached k) = other k

@@ -167,3 +167,109 @@ module _ (t : Transport) (now : ℕ) where
       go : (m ≡ now + hour) ⊎ ((i : ℕ) × (r : StunRequestState) × (getElem? l i ≡ some r) × (pollOf t now r ≡ WaitUntil m)) → now ≤ m
       go (inl z) = omega arith
       go (inr x) = wait-from (x .1) m (x .3)
+
+  -- ---- the other way round
+
+  pub none-ends-at : (l : List StunRequestState) (i : ℕ) (r : StunRequestState) → NoneEnds t now l → getElem? l i ≡ some r
+      → ends (pollOf t now r) ≡ false
+  none-ends-at [] i r b e = none-some e
+  none-ends-at (q ∷ qs) zero r b e = rw (some-same e) at (b .0)
+  none-ends-at (q ∷ qs) (suc i) r b e = none-ends-at qs i r (b .1) e
+
+  -- a request that waits is passed by
+  scan-waits : (most : ℕ) (r : StunRequestState) (rs : List StunRequestState) → ends (pollOf t now r) ≡ false
+      → (m : ℕ) × (pollFrom t now 0 most (r ∷ rs) ≡ onward (pollFrom t now 0 m rs))
+  scan-waits most r rs e = go (pollOf t now r) e (scan-cons most r rs)
+    where
+      go : (s : StunRequestPollRet) → ends s ≡ false
+          → pollFrom t now 0 most (r ∷ rs) ≡ reached 0 most r s (λ m. onward (pollFrom t now 0 m rs))
+          → (m : ℕ) × (pollFrom t now 0 most (r ∷ rs) ≡ onward (pollFrom t now 0 m rs))
+      go (WaitUntil clock) e f = (min most clock, f)
+      go Cancelled e f = apart e
+      go TimedOut e f = apart e
+
+  first-timed-out : (most : ℕ) (l : List StunRequestState) (i : ℕ) (r : StunRequestState) → getElem? l i ≡ some r → NoneEnds t now (take i l)
+      → pollOf t now r ≡ TimedOut → pollFrom t now 0 most l ≡ TimesOut i (r .«transaction_id»)
+  first-timed-out most [] i r e b a = none-some e
+  first-timed-out most (q ∷ qs) zero r e b a = rw (some-same e, a)
+  first-timed-out most (q ∷ qs) (suc i) r e b a =
+      let s = scan-waits most q qs (b .0) in
+      s .1 ∙ ap onward (first-timed-out (s .0) qs i r e (b .1) a)
+
+  first-cancelled : (most : ℕ) (l : List StunRequestState) (i : ℕ) (r : StunRequestState) → getElem? l i ≡ some r → NoneEnds t now (take i l)
+      → pollOf t now r ≡ Cancelled → pollFrom t now 0 most l ≡ Cancels i (r .«transaction_id»)
+  first-cancelled most [] i r e b a = none-some e
+  first-cancelled most (q ∷ qs) zero r e b a = rw (some-same e, a)
+  first-cancelled most (q ∷ qs) (suc i) r e b a =
+      let s = scan-waits most q qs (b .0) in
+      s .1 ∙ ap onward (first-cancelled (s .0) qs i r e (b .1) a)
+
+  module _ (l : List StunRequestState) where
+    module _ (i : ℕ) (r : StunRequestState) (placed : getElem? l i ≡ some r) (before : NoneEnds t now (take i l)) where
+      pub poll-first-timed-out : pollOf t now r ≡ TimedOut → pollAll t now l ≡ TimesOut i (r .«transaction_id»)
+      poll-first-timed-out a = first-timed-out (now + hour) l i r placed before a
+
+      pub poll-first-cancelled : pollOf t now r ≡ Cancelled → pollAll t now l ≡ Cancels i (r .«transaction_id»)
+      poll-first-cancelled a = first-cancelled (now + hour) l i r placed before a
+
+    -- a request that ended is not one of those that wait
+    ended-not : (i : ℕ) (id : TransactionId) (answer : StunRequestPollRet) → ends answer ≡ true → Ended l i id answer → NoneEnds t now l → ⊥
+    ended-not i id answer a e w =
+        apart (sym a ∙ ap ends (sym (e .answers)) ∙ none-ends-at l i (e .request) w (e .placed))
+
+    pub waits-exactly : ((m : ℕ) × (pollAll t now l ≡ Waits m)) ↔ NoneEnds t now l
+    waits-exactly = (λ e. poll-waits l (e .0) (e .1) .all-wait, λ w. go w (pollAll t now l) refl (poll-says l))
+      where
+        go : NoneEnds t now l → (o : Polled) → pollAll t now l ≡ o → Says (now + hour) l o → (m : ℕ) × (pollAll t now l ≡ Waits m)
+        go w (TimesOut i id) e s = absurd (ended-not i id TimedOut refl s w)
+        go w (Cancels i id) e s = absurd (ended-not i id Cancelled refl s w)
+        go w (Waits m) e s = (m, e)
+
+-- ---- the request r at place i, and the answer of `poll`
+
+pub data Told (t : Transport) (now i : ℕ) (r : StunRequestState) : Polled → Type 0 where
+  timed-out : pollOf t now r ≡ TimedOut → Told t now i r (TimesOut i (r .«transaction_id»))
+  cancelled : pollOf t now r ≡ Cancelled → Told t now i r (Cancels i (r .«transaction_id»))
+  other-timed-out : {j : ℕ} {id : TransactionId} → (j ≡ i → ⊥) → (key id ≡ keyOf r → ⊥) → Told t now i r (TimesOut j id)
+  other-cancelled : {j : ℕ} {id : TransactionId} → (j ≡ i → ⊥) → (key id ≡ keyOf r → ⊥) → Told t now i r (Cancels j id)
+  waits : {m clock : ℕ} → pollOf t now r ≡ WaitUntil clock → m ≤ clock → Told t now i r (Waits m)
+
+module _ (t : Transport) (now : ℕ) where
+  module _ (l : List StunRequestState) (i : ℕ) (r : StunRequestState) (order : Ascending (keysOf l)) (placed : getElem? l i ≡ some r) where
+    -- a request at another place has another key
+    elsewhere : (j : ℕ) (q : StunRequestState) → getElem? l j ≡ some q → (j ≡ i → ⊥) → keyOf q ≡ keyOf r → ⊥
+    elsewhere j q e n k =
+        let a : lookup (keyOf r) l ≡ At j q = rw k at (placed-found j q l order e) in
+        let b : lookup (keyOf r) l ≡ At i r = placed-found i r l order placed in
+        n cc
+
+    pub poll-at : Told t now i r (pollAll t now l)
+    poll-at = go (pollAll t now l) (poll-says t now l)
+      where
+        same : (q : StunRequestState) → getElem? l i ≡ some q → q ≡ r
+        same q e = some-same (sym e ∙ placed)
+
+        go : (o : Polled) → Says t now (now + hour) l o → Told t now i r o
+        go (TimesOut j id) s = by (eqb j i) refl
+          where
+            by : (b : Bool) → eqb j i ≡ b → Told t now i r (TimesOut j id)
+            by true b =
+                let z : j ≡ i = eqb-true j i b in
+                let q : s .request ≡ r = same (s .request) (rw z at (s .placed)) in
+                rw (z, ← s .id-is, q) (timed-out (rw q at (s .answers)))
+            by false b =
+                other-timed-out (eqb-false j i b) (λ k. elsewhere j (s .request) (s .placed) (eqb-false j i b) (ap key (s .id-is) ∙ k))
+        go (Cancels j id) s = by (eqb j i) refl
+          where
+            by : (b : Bool) → eqb j i ≡ b → Told t now i r (Cancels j id)
+            by true b =
+                let z : j ≡ i = eqb-true j i b in
+                let q : s .request ≡ r = same (s .request) (rw z at (s .placed)) in
+                rw (z, ← s .id-is, q) (cancelled (rw q at (s .answers)))
+            by false b =
+                other-cancelled (eqb-false j i b) (λ k. elsewhere j (s .request) (s .placed) (eqb-false j i b) (ap key (s .id-is) ∙ k))
+        go (Waits m) s = let w = s .least i r placed in waits (w .1) (w .2)
+
+  pub poll-found : (l : List StunRequestState) (k i : ℕ) (r : StunRequestState) → Ascending (keysOf l) → lookup k l ≡ At i r
+      → Told t now i r (pollAll t now l)
+  poll-found l k i r order e = poll-at l i r order (found-at k i r l e .placed)

@@ -5,3 +5,4 @@ pub mod Search
 pub mod Free
 pub mod Transmits
 pub mod Polls
+pub mod Kept

@@ -62,6 +62,11 @@ module _ {A : Type 0} where
   placed-set (z ∷ l) zero x y e = refl
   placed-set (z ∷ l) (suc i) x y e = placed-set l i x y e
 
+  pub length-removed : (l : List A) (i : ℕ) → length (removeAt l i) ≤ length l
+  length-removed [] i = omega arith
+  length-removed (y ∷ l) zero = omega arith
+  length-removed (y ∷ l) (suc i) = omega (arith, length-removed l i)
+
 -- what is read of each stays, where it is the same of the one that is put there
 pub map-set : {A B : Type 0} (f : A → B) (l : List A) (i : ℕ) (x y : A) → getElem? l i ≡ some x → f y ≡ f x → map f (set l i y) ≡ map f l
 map-set f [] i x y e h = refl

@@ -32,7 +32,7 @@ use Rattle.requests.specs.declared.Found.the-variants.{At, Nothing}
 use Rattle.requests.specs.declared.Polled.{Polled}
 use Rattle.requests.specs.declared.Polled.the-variants.{TimedOut as TimesOut, Cancelled as Cancels, WaitUntil as Waits}
 use Rattle.requests.proofs.Lists.{apart, some-same, none-some, placed-below}
-use Rattle.requests.proofs.Search.{found-at, none-exactly, placed-found}
+use Rattle.requests.proofs.Search.{found-at, none-exactly, among-placed, placed-found}
 
 -- each of them waits
 abbrev pub NoneEnds : Transport → ℕ → List StunRequestState → Type 0
@@ -273,3 +273,9 @@ module _ (t : Transport) (now : ℕ) where
   pub poll-found : (l : List StunRequestState) (k i : ℕ) (r : StunRequestState) → Ascending (keysOf l) → lookup k l ≡ At i r
       → Told t now i r (pollAll t now l)
   poll-found l k i r order e = poll-at l i r order (found-at k i r l e .placed)
+
+  -- `poll` names no request that isn't there
+  pub poll-none : (l : List StunRequestState) (k i : ℕ) (id : TransactionId) (answer : StunRequestPollRet) → lookup k l ≡ Nothing
+      → Ended t now l i id answer → key id ≡ k → ⊥
+  poll-none l k i id answer e s z =
+      among-placed k l i (s .request) (none-exactly k l .0 e) (s .placed) (ap key (s .id-is) ∙ z)

@@ -20,6 +20,7 @@ use Rattle.rows.specs.Lists.{insertAt, removeAt, among}
 use Rattle.rows.proofs.Lists.{map-insertAt, map-removeAt}
 use Rattle.request.specs.Limits.{RequestLimits}
 use Rattle.request.specs.declared.StunRequestState.{StunRequestState}
+use Rattle.request.proofs.Limits.{limits-later}
 use Rattle.requests.specs.Search.{keyOf, keysOf, rowOf, rowsOf, lookupFrom, lookup, placeFrom, placeOf, added, requestOf}
 use Rattle.requests.specs.Formed.{Ascending, Different, AllWithin}
 use Rattle.requests.specs.declared.Found.{Found}
@@ -141,6 +142,14 @@ none-holds k (q ∷ qs) e =
 pub none-exactly : (k : ℕ) (l : List StunRequestState) → (lookup k l ≡ Nothing) ↔ (among k (keysOf l) ≡ false)
 none-exactly k l = (none-says k l, none-holds k l)
 
+-- a request that stands in the list has another key than one that isn't among the keys
+pub among-placed : (k : ℕ) (l : List StunRequestState) (i : ℕ) (r : StunRequestState) → among k (keysOf l) ≡ false → getElem? l i ≡ some r
+    → keyOf r ≡ k → ⊥
+among-placed k [] i r n e z = none-some e
+among-placed k (q ∷ qs) zero r n e z =
+    eqb-false (keyOf q) k (neither (eqb (keyOf q) k) (among k (keysOf qs)) n .0) (ap keyOf (some-same e) ∙ z)
+among-placed k (q ∷ qs) (suc i) r n e z = among-placed k qs i r (neither (eqb (keyOf q) k) (among k (keysOf qs)) n .1) e z
+
 -- in ascending order each request is found where it stands
 pub placed-found : (i : ℕ) (r : StunRequestState) (l : List StunRequestState) → Ascending (keysOf l) → getElem? l i ≡ some r
     → lookup (keyOf r) l ≡ At i r
@@ -236,6 +245,11 @@ module _ (rows mark : ℕ) where
   set-within [] i r w h = tt
   set-within (q ∷ qs) zero r w h = (h, w .1)
   set-within (q ∷ qs) (suc i) r w h = (w .0, set-within qs i r (w .1) h)
+
+  -- at a later mark
+  pub later-within : (later : ℕ) → mark ≤ later → (l : List StunRequestState) → AllWithin rows mark l → AllWithin rows later l
+  later-within later h [] w = tt
+  later-within later h (r ∷ rs) w = (limits-later rows mark later r h (w .0), later-within later h rs (w .1))
 
   -- the limits of the request at a place
   pub placed-within : (l : List StunRequestState) (i : ℕ) (r : StunRequestState) → AllWithin rows mark l → getElem? l i ≡ some r

@@ -25,7 +25,7 @@ use Rattle.request.specs.declared.StunRequestState.{StunRequestState}
 use Rattle.request.specs.declared.StunRequestTransmit.{StunRequestTransmit}
 use Rattle.request.specs.declared.StunRequestTransmit.the-variants.{Rests, Passes, Goes}
 use Rattle.request.proofs.Kept.{same-itself, same-transmit}
-use Rattle.request.proofs.Limits.{transmit-limits, limits-later}
+use Rattle.request.proofs.Limits.{transmit-limits}
 use Rattle.request.specs.Limits.{RequestLimits}
 use Rattle.requests.specs.Search.{keyOf, keysOf, rowOf, rowsOf, lookup}
 use Rattle.requests.specs.Scan.{Walk, walk, meet}
@@ -34,7 +34,7 @@ use Rattle.requests.specs.declared.Found.the-variants.{At, Nothing}
 use Rattle.requests.specs.declared.Transmitted.{Transmitted}
 use Rattle.requests.specs.declared.Transmitted.the-variants.{Sends, Quiet}
 use Rattle.requests.proofs.Lists.{apart, some-same, none-some, neither, ascending-tail, ascending-absent}
-use Rattle.requests.proofs.Search.{found-at, none-exactly, placed-found, placed-other}
+use Rattle.requests.proofs.Search.{later-within, found-at, none-exactly, placed-found, placed-other}
 
 -- the request after `poll_transmit` reached it
 abbrev pub passedBy : Transport → ℕ → StunRequestState → StunRequestState
@@ -74,10 +74,6 @@ module _ (t : Transport) (now : ℕ) where
   walk-length l = sym (length-map (walk t now l .after) keyOf) ∙ ap length (walk-keys l) ∙ length-map l keyOf
 
   module _ (rows mark : ℕ) (h : mark ≤ now) where
-    pub later-within : (l : List StunRequestState) → AllWithin rows mark l → AllWithin rows now l
-    later-within [] w = tt
-    later-within (r ∷ rs) w = (limits-later rows mark now r h (w .0), later-within rs (w .1))
-
     pub walk-within : (l : List StunRequestState) → AllWithin rows mark l → AllWithin rows now (walk t now l .after)
     walk-within [] w = tt
     walk-within (r ∷ rs) w =
@@ -85,7 +81,7 @@ module _ (t : Transport) (now : ℕ) where
       where
         go : (s : StunRequestTransmit) → RequestLimits rows now (recordAfter r s) → AllWithin rows now (walk t now rs .after)
             → AllWithin rows now (met t now s r rs .after)
-        go (Goes p) k ih = (k, later-within rs (w .1))
+        go (Goes p) k ih = (k, later-within rows mark now h rs (w .1))
         go (Passes p) k ih = (k, ih)
         go Rests k ih = (k, ih)
 

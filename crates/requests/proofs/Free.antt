@@ -1,8 +1,8 @@
 -- The lowest free row, and when there is none.
---     free-row, full-exactly               what `freeRow` says
---     free-exists                          fewer requests than rows leave a row free
---     count-most, free-fewer, full-count   different rows below `rows`: all are taken exactly when there are as many requests
---     free-different                       a request that takes the free row keeps the rows different
+--     free-row, row-exactly, full-exactly      what `freeRow` says
+--     free-exists                              fewer requests than rows leave a row free
+--     count-most, free-exactly, full-count     different rows below `rows`: one is free exactly when there are fewer requests
+--     free-different                           a request that takes the free row keeps the rows different
 use Prim.Native.Nat.{ℕ, zero, suc, _+_, _≤_, _<_}
 use mathlib.Core.Path.{_≡_, refl, sym, ap, _∙_}
 use mathlib.Core.Bool.{Bool, true, false, cond, _||_}
@@ -10,11 +10,10 @@ use mathlib.Core.Logic.{_↔_}
 use mathlib.Core.List.{List, [], _∷_}
 use native.Mathlib.Nat.{not-suc-le-zero}
 use native.Mathlib.Omega.{arith}
-use lib.Dec.{eqb, leb}
+use lib.Dec.{eqb, leb, ltb}
 use lib.ListN.{length, length-map}
-use borrow.Author.Tests.{eqb-true, eqb-false, ne-eqb, leb-true, leb-false}
+use borrow.Author.Tests.{eqb-true, eqb-false, ne-eqb, leb-true, leb-false, ltb-true, ltb-false}
 use Rattle.rows.specs.Lists.{among}
-use Rattle.request.specs.Limits.{RequestLimits}
 use Rattle.request.specs.declared.StunRequestState.{StunRequestState}
 use Rattle.requests.specs.Search.{rowOf, rowsOf, added, freeFrom, freeRow}
 use Rattle.requests.specs.Formed.{Different, AllWithin}
@@ -74,6 +73,18 @@ module _ (rows : ℕ) (l : List StunRequestState) where
   free-row i e =
       let s = free-says 0 rows (rowsOf l) i e in
       record { below = omega arith; free = s .2; lower = λ j h. s .3 j (omega arith) h }
+
+  pub row-exactly : (i : ℕ) → (freeRow rows l ≡ Row i) ↔ Lowest rows (rowsOf l) i
+  row-exactly i = (free-row i, λ w. go w (freeRow rows l) refl)
+    where
+      by : Lowest rows (rowsOf l) i → (j : ℕ) → Lowest rows (rowsOf l) j → (a b : Bool) → ltb i j ≡ a → ltb j i ≡ b → j ≡ i
+      by w j v true b f g = apart (sym (v .lower i (ltb-true i j f)) ∙ w .free)
+      by w j v false true f g = apart (sym (w .lower j (ltb-true j i g)) ∙ v .free)
+      by w j v false false f g = omega (arith, ltb-false i j f, ltb-false j i g)
+
+      go : Lowest rows (rowsOf l) i → (f : FreeRow) → freeRow rows l ≡ f → f ≡ Row i
+      go w (Row j) e = ap Row (by w j (free-row j e) (ltb i j) (ltb j i) refl refl)
+      go w Full e = apart (sym (full-says 0 rows (rowsOf l) e i (omega arith) (omega (arith, w .below))) ∙ w .free)
 
   pub full-exactly : (freeRow rows l ≡ Full) ↔ ((j : ℕ) → j < rows → among j (rowsOf l) ≡ true)
   full-exactly = (
@@ -202,6 +213,9 @@ module _ (rows : ℕ) (l : List StunRequestState) where
         let d′ : Different (i ∷ rowsOf l) = (λ a. apart (sym a ∙ s .free), d) in
         let m = different-short rows (i ∷ rowsOf l) d′ (s .below, rows-below rows mark l w) in
         omega (arith, length-map l rowOf)
+
+    pub free-exactly : ((i : ℕ) × (freeRow rows l ≡ Row i)) ↔ (length l < rows)
+    free-exactly = (λ e. free-fewer (e .0) (e .1), free-exists)
 
     pub full-count : (freeRow rows l ≡ Full) ↔ (length l ≡ rows)
     full-count = (to, from)

@@ -10,7 +10,7 @@ use mathlib.Core.Path.{_≡_, ap}
 use mathlib.Core.List.{List, []}
 use mathlib.Core.Option.{some}
 use native.Mathlib.Omega.{arith}
-use lib.ListN.{length, set, getElem?, length-set}
+use lib.ListN.{set, getElem?, length-set}
 use Rattle.rows.specs.Lists.{removeAt}
 use Rattle.rows.proofs.Lists.{length-insertAt}
 use Rattle.message.specs.Head.{key}

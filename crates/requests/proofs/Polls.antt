@@ -1,20 +1,19 @@
 -- The scan of `poll`: the first request that ended, or the clock to wait for.
 --     poll-timed-out, poll-cancelled, poll-waits, wait-least   what each answer says
---     poll-first-timed-out, poll-first-cancelled               the first request that ended is the answer
+--     poll-first                                               the first request that ended is the answer
 --     waits-exactly                                            `poll` says to wait exactly when none ended
 --     poll-found, poll-none                                    what it says of the request with an identifier
 use Prim.Native.Nat.{ℕ, zero, suc, _+_, _≤_, _<_, min, max}
 use mathlib.Core.Path.{_≡_, refl, sym, ap, _∙_}
-use mathlib.Core.Bool.{Bool, true, false, cond}
+use mathlib.Core.Bool.{Bool, true, false}
 use mathlib.Core.Logic.{_↔_, _⊎_, inl, inr}
 use mathlib.Core.List.{List, [], _∷_}
-use mathlib.Core.Option.{Option, none, some}
+use mathlib.Core.Option.{some}
 use native.Mathlib.Numerals.{add-one}
 use native.Mathlib.Omega.{arith}
 use lib.Dec.{eqb, leb}
 use lib.ListN.{length, take, getElem?}
 use borrow.Author.Tests.{eqb-true, eqb-false, leb-true, leb-false}
-use Rattle.rows.specs.Lists.{among}
 use Rattle.message.specs.Head.{key}
 use Rattle.message.specs.declared.TransactionId.{TransactionId}
 use Rattle.waits.specs.declared.Transport.{Transport}
@@ -31,13 +30,19 @@ use Rattle.requests.specs.Formed.{Ascending}
 use Rattle.requests.specs.declared.Found.the-variants.{At, Nothing}
 use Rattle.requests.specs.declared.Polled.{Polled}
 use Rattle.requests.specs.declared.Polled.the-variants.{TimedOut as TimesOut, Cancelled as Cancels, WaitUntil as Waits}
-use Rattle.requests.proofs.Lists.{apart, some-same, none-some, placed-below}
+use Rattle.requests.proofs.Lists.{apart, some-same, none-some}
 use Rattle.requests.proofs.Search.{found-at, none-exactly, among-placed, placed-found}
 
 -- each of them waits
 abbrev pub NoneEnds : Transport → ℕ → List StunRequestState → Type 0
 NoneEnds t now [] = Unit
 NoneEnds t now (r ∷ rs) = (ends (pollOf t now r) ≡ false) × NoneEnds t now rs
+
+-- the answer of one request at place i, as an answer of the scan
+abbrev pub reportOf : StunRequestPollRet → ℕ → TransactionId → Polled
+reportOf (WaitUntil clock) i id = Waits clock
+reportOf Cancelled i id = Cancels i id
+reportOf TimedOut i id = TimesOut i id
 
 -- one place further on
 abbrev onward : Polled → Polled
@@ -188,29 +193,29 @@ module _ (t : Transport) (now : ℕ) where
       go Cancelled e f = apart e
       go TimedOut e f = apart e
 
-  first-timed-out : (most : ℕ) (l : List StunRequestState) (i : ℕ) (r : StunRequestState) → getElem? l i ≡ some r → NoneEnds t now (take i l)
-      → pollOf t now r ≡ TimedOut → pollFrom t now 0 most l ≡ TimesOut i (r .«transaction_id»)
-  first-timed-out most [] i r e b a = none-some e
-  first-timed-out most (q ∷ qs) zero r e b a = rw (some-same e, a)
-  first-timed-out most (q ∷ qs) (suc i) r e b a =
+  first-ended : (most : ℕ) (l : List StunRequestState) (i : ℕ) (r : StunRequestState) (a : StunRequestPollRet) → getElem? l i ≡ some r
+      → NoneEnds t now (take i l) → pollOf t now r ≡ a → ends a ≡ true → pollFrom t now 0 most l ≡ reportOf a i (r .«transaction_id»)
+  first-ended most [] i r a e b f h = none-some e
+  first-ended most (q ∷ qs) zero r a e b f h = rw (some-same e, f) (report-first a h)
+    where
+      report-first : (a : StunRequestPollRet) → ends a ≡ true
+          → reached 0 most r a (λ m. pollFrom t now 1 m qs) ≡ reportOf a 0 (r .«transaction_id»)
+      report-first (WaitUntil clock) h = apart (sym h)
+      report-first Cancelled h = refl
+      report-first TimedOut h = refl
+  first-ended most (q ∷ qs) (suc i) r a e b f h =
       let s = scan-waits most q qs (b .0) in
-      s .1 ∙ ap onward (first-timed-out (s .0) qs i r e (b .1) a)
-
-  first-cancelled : (most : ℕ) (l : List StunRequestState) (i : ℕ) (r : StunRequestState) → getElem? l i ≡ some r → NoneEnds t now (take i l)
-      → pollOf t now r ≡ Cancelled → pollFrom t now 0 most l ≡ Cancels i (r .«transaction_id»)
-  first-cancelled most [] i r e b a = none-some e
-  first-cancelled most (q ∷ qs) zero r e b a = rw (some-same e, a)
-  first-cancelled most (q ∷ qs) (suc i) r e b a =
-      let s = scan-waits most q qs (b .0) in
-      s .1 ∙ ap onward (first-cancelled (s .0) qs i r e (b .1) a)
+      s .1 ∙ ap onward (first-ended (s .0) qs i r a e (b .1) f h) ∙ report-onward a
+    where
+      report-onward : (a : StunRequestPollRet) → onward (reportOf a i (r .«transaction_id»)) ≡ reportOf a (suc i) (r .«transaction_id»)
+      report-onward (WaitUntil clock) = refl
+      report-onward Cancelled = refl
+      report-onward TimedOut = refl
 
   module _ (l : List StunRequestState) where
-    module _ (i : ℕ) (r : StunRequestState) (placed : getElem? l i ≡ some r) (before : NoneEnds t now (take i l)) where
-      pub poll-first-timed-out : pollOf t now r ≡ TimedOut → pollAll t now l ≡ TimesOut i (r .«transaction_id»)
-      poll-first-timed-out a = first-timed-out (now + hour) l i r placed before a
-
-      pub poll-first-cancelled : pollOf t now r ≡ Cancelled → pollAll t now l ≡ Cancels i (r .«transaction_id»)
-      poll-first-cancelled a = first-cancelled (now + hour) l i r placed before a
+    pub poll-first : (i : ℕ) (r : StunRequestState) → getElem? l i ≡ some r → NoneEnds t now (take i l) → ends (pollOf t now r) ≡ true
+        → pollAll t now l ≡ reportOf (pollOf t now r) i (r .«transaction_id»)
+    poll-first i r e b h = first-ended (now + hour) l i r (pollOf t now r) e b refl h
 
     -- a request that ended is not one of those that wait
     ended-not : (i : ℕ) (id : TransactionId) (answer : StunRequestPollRet) → ends answer ≡ true → Ended l i id answer → NoneEnds t now l → ⊥
@@ -243,31 +248,34 @@ module _ (t : Transport) (now : ℕ) where
         let b : lookup (keyOf r) l ≡ At i r = placed-found i r l order placed in
         n cc
 
+    -- the request that ended is r, at its place; or it is another one, at another place
+    which : (j : ℕ) (id : TransactionId) (answer : StunRequestPollRet) → Ended t now l j id answer
+        → ((j ≡ i) × (id ≡ r .«transaction_id») × (pollOf t now r ≡ answer)) ⊎ ((j ≡ i → ⊥) × (key id ≡ keyOf r → ⊥))
+    which j id answer s = go (eqb j i) refl
+      where
+        go : (b : Bool) → eqb j i ≡ b → ((j ≡ i) × (id ≡ r .«transaction_id») × (pollOf t now r ≡ answer)) ⊎ ((j ≡ i → ⊥) × (key id ≡ keyOf r → ⊥))
+        go true b =
+            let z : j ≡ i = eqb-true j i b in
+            let q : s .request ≡ r = some-same (sym (rw z at (s .placed)) ∙ placed) in
+            inl (z, rw q at (sym (s .id-is)), rw q at (s .answers))
+        go false b = let n = eqb-false j i b in inr (n, λ k. elsewhere j (s .request) (s .placed) n (ap key (s .id-is) ∙ k))
+
     pub poll-at : Told t now i r (pollAll t now l)
     poll-at = go (pollAll t now l) (poll-says t now l)
       where
-        same : (q : StunRequestState) → getElem? l i ≡ some q → q ≡ r
-        same q e = some-same (sym e ∙ placed)
+        timed : (j : ℕ) (id : TransactionId) → ((j ≡ i) × (id ≡ r .«transaction_id») × (pollOf t now r ≡ TimedOut)) ⊎ ((j ≡ i → ⊥) × (key id ≡ keyOf r → ⊥))
+            → Told t now i r (TimesOut j id)
+        timed j id (inl z) = rw (z .0, z .1) (timed-out (z .2))
+        timed j id (inr n) = other-timed-out (n .0) (n .1)
+
+        ceased : (j : ℕ) (id : TransactionId) → ((j ≡ i) × (id ≡ r .«transaction_id») × (pollOf t now r ≡ Cancelled)) ⊎ ((j ≡ i → ⊥) × (key id ≡ keyOf r → ⊥))
+            → Told t now i r (Cancels j id)
+        ceased j id (inl z) = rw (z .0, z .1) (cancelled (z .2))
+        ceased j id (inr n) = other-cancelled (n .0) (n .1)
 
         go : (o : Polled) → Says t now (now + hour) l o → Told t now i r o
-        go (TimesOut j id) s = by (eqb j i) refl
-          where
-            by : (b : Bool) → eqb j i ≡ b → Told t now i r (TimesOut j id)
-            by true b =
-                let z : j ≡ i = eqb-true j i b in
-                let q : s .request ≡ r = same (s .request) (rw z at (s .placed)) in
-                rw (z, ← s .id-is, q) (timed-out (rw q at (s .answers)))
-            by false b =
-                other-timed-out (eqb-false j i b) (λ k. elsewhere j (s .request) (s .placed) (eqb-false j i b) (ap key (s .id-is) ∙ k))
-        go (Cancels j id) s = by (eqb j i) refl
-          where
-            by : (b : Bool) → eqb j i ≡ b → Told t now i r (Cancels j id)
-            by true b =
-                let z : j ≡ i = eqb-true j i b in
-                let q : s .request ≡ r = same (s .request) (rw z at (s .placed)) in
-                rw (z, ← s .id-is, q) (cancelled (rw q at (s .answers)))
-            by false b =
-                other-cancelled (eqb-false j i b) (λ k. elsewhere j (s .request) (s .placed) (eqb-false j i b) (ap key (s .id-is) ∙ k))
+        go (TimesOut j id) s = timed j id (which j id TimedOut s)
+        go (Cancels j id) s = ceased j id (which j id Cancelled s)
         go (Waits m) s = let w = s .least i r placed in waits (w .1) (w .2)
 
   pub poll-found : (l : List StunRequestState) (k i : ℕ) (r : StunRequestState) → Ascending (keysOf l) → lookup k l ≡ At i r

@@ -4,12 +4,12 @@
 --     place-most, added-cons                        the place of a new request, and the list with it
 --     keys-added, .., set-within                    order, rows and limits after `added`, `removeAt` and `set`
 --     lookup-added, .., lookup-set-other            looking after a change, for the same identifier and for another
-use Prim.Native.Nat.{ℕ, zero, suc, _+_, _≤_, _<_}
+use Prim.Native.Nat.{ℕ, zero, suc, _≤_, _<_}
 use mathlib.Core.Path.{_≡_, refl, sym, ap, _∙_}
 use mathlib.Core.Bool.{Bool, true, false, cond, _||_}
 use mathlib.Core.Logic.{_↔_}
-use mathlib.Core.List.{List, [], _∷_, _++_, map}
-use mathlib.Core.Option.{Option, none, some}
+use mathlib.Core.List.{List, [], _∷_, _++_}
+use mathlib.Core.Option.{some}
 use native.Mathlib.Numerals.{add-one}
 use native.Mathlib.Omega.{arith}
 use lib.Dec.{eqb, ltb}
@@ -25,10 +25,10 @@ use Rattle.requests.specs.Search.{keyOf, keysOf, rowOf, rowsOf, lookupFr
 use Rattle.requests.specs.Formed.{Ascending, Different, AllWithin}
 use Rattle.requests.specs.declared.Found.{Found}
 use Rattle.requests.specs.declared.Found.the-variants.{At, Nothing}
-use Rattle.requests.proofs.Lists.{neither, apart, some-same, none-some, placed-below, placed-split, placed-set, map-set, ascending-tail, ascending-lower, ascending-absent, insert-different, remove-different, remove-ascending}
+use Rattle.requests.proofs.Lists.{neither, some-same, none-some, placed-below, placed-split, placed-set, map-set, ascending-tail, ascending-lower, ascending-absent, insert-different, remove-different, remove-ascending}
 
 -- one place further on
-abbrev pub onward : Found → Found
+abbrev onward : Found → Found
 onward (At i r) = At (suc i) r
 onward Nothing = Nothing
 

@@ -4,12 +4,13 @@
 --     quiet-exactly, walk-quiet                        none goes out
 --     transmit-at, transmit-found, transmit-none       what it makes of the request at a place, or with an identifier
 --     loud-stays, loud-met                             of one that isn't silenced: that depends on the request and the clock
-use Prim.Native.Nat.{ℕ, zero, suc, _+_, _≤_, _<_, min}
+--     walk-by                                          the scan over other places that hold a request each
+use Prim.Native.Nat.{ℕ, zero, suc, _≤_}
 use mathlib.Core.Path.{_≡_, refl, sym, ap, _∙_, subst}
-use mathlib.Core.Bool.{Bool, true, false, cond, not, _&&_}
+use mathlib.Core.Bool.{Bool, true, false, cond}
 use mathlib.Core.Logic.{_↔_}
 use mathlib.Core.List.{List, [], _∷_, _++_, map}
-use mathlib.Core.Option.{Option, none, some}
+use mathlib.Core.Option.{some}
 use native.Mathlib.Omega.{arith}
 use lib.Dec.{eqb}
 use lib.ListN.{length, take, drop, getElem?, length-map}
@@ -28,7 +29,7 @@ use Rattle.request.proofs.Kept.{same-itself, same-transmit}
 use Rattle.request.proofs.Limits.{transmit-limits}
 use Rattle.request.specs.Limits.{RequestLimits}
 use Rattle.requests.specs.Search.{keyOf, keysOf, rowOf, rowsOf, lookup}
-use Rattle.requests.specs.Scan.{Walk, walk, meet}
+use Rattle.requests.specs.Scan.{Walk, meet, walkBy, walk}
 use Rattle.requests.specs.Formed.{Ascending, AllWithin}
 use Rattle.requests.specs.declared.Found.the-variants.{At, Nothing}
 use Rattle.requests.specs.declared.Transmitted.{Transmitted}
@@ -46,8 +47,8 @@ NoneGoes t now [] = Unit
 NoneGoes t now (r ∷ rs) = (goesOut (transmitOf t now r) ≡ false) × NoneGoes t now rs
 
 -- the scan over r and rs, where r's answer is known
-abbrev pub met : Transport → ℕ → StunRequestTransmit → StunRequestState → List StunRequestState → Walk StunRequestState
-met t now s r rs = meet (λ q. q) s r rs (walk t now rs)
+abbrev walkOn : Transport → ℕ → StunRequestTransmit → StunRequestState → List StunRequestState → Walk StunRequestState
+walkOn t now s r rs = meet (λ q. q) s r rs (walk t now rs)
 
 -- ---- what the scan keeps
 
@@ -59,7 +60,7 @@ module _ (t : Transport) (now : ℕ) where
   walk-map {B} f same (r ∷ rs) = go (transmitOf t now r) (same r (passedBy t now r) (same-transmit r now t)) (walk-map f same rs)
     where
       go : (s : StunRequestTransmit) → f (recordAfter r s) ≡ f r → map f (walk t now rs .after) ≡ map f rs
-          → map f (met t now s r rs .after) ≡ f r ∷ map f rs
+          → map f (walkOn t now s r rs .after) ≡ f r ∷ map f rs
       go (Goes p) k ih = ap (λ (x : B). x ∷ map f rs) k
       go (Passes p) k ih = rw (k, ih)
       go Rests k ih = rw ih
@@ -80,7 +81,7 @@ module _ (t : Transport) (now : ℕ) where
         go (transmitOf t now r) (transmit-limits rows mark r (w .0) t now h) (walk-within rs (w .1))
       where
         go : (s : StunRequestTransmit) → RequestLimits rows now (recordAfter r s) → AllWithin rows now (walk t now rs .after)
-            → AllWithin rows now (met t now s r rs .after)
+            → AllWithin rows now (walkOn t now s r rs .after)
         go (Goes p) k ih = (k, later-within rows mark now h rs (w .1))
         go (Passes p) k ih = (k, ih)
         go Rests k ih = (k, ih)
@@ -96,42 +97,35 @@ module _ (t : Transport) (now : ℕ) where
     pub before : NoneGoes t now (take place l)
     pub becomes : after ≡ map (passedBy t now) (take place l) ++ (p ∷ drop (suc place) l)
 
+  sent-onward : (r q p : StunRequestState) (rs after : List StunRequestState) → goesOut (transmitOf t now r) ≡ false → passedBy t now r ≡ q
+      → SentFrom rs p after → SentFrom (r ∷ rs) p (q ∷ after)
+  sent-onward r q p rs after g z s = record {
+    place = suc (s .place);
+    request = s .request;
+    placed = s .placed;
+    goes = s .goes;
+    before = (g, s .before);
+    becomes = rw z (ap (λ (x : List StunRequestState). q ∷ x) (s .becomes));
+  }
+
   pub walk-sends : (l : List StunRequestState) (p : StunRequestState) → walk t now l .out ≡ Sends p → SentFrom l p (walk t now l .after)
   walk-sends [] p e = let z : _≡_ {A = ℕ} 0 1 = cc in absurd (omega arith)
   walk-sends (r ∷ rs) p e = go (transmitOf t now r) refl e (walk-sends rs p)
     where
-      go : (s : StunRequestTransmit) → transmitOf t now r ≡ s → met t now s r rs .out ≡ Sends p
-          → (walk t now rs .out ≡ Sends p → SentFrom rs p (walk t now rs .after)) → SentFrom (r ∷ rs) p (met t now s r rs .after)
+      go : (s : StunRequestTransmit) → transmitOf t now r ≡ s → walkOn t now s r rs .out ≡ Sends p
+          → (walk t now rs .out ≡ Sends p → SentFrom rs p (walk t now rs .after)) → SentFrom (r ∷ rs) p (walkOn t now s r rs .after)
       go (Goes q) b h ih =
           let z : q ≡ p = cc in
           record { place = 0; request = r; placed = refl; goes = b ∙ ap Goes z; before = tt; becomes = ap (λ (x : StunRequestState). x ∷ rs) z }
-      go (Passes q) b h ih =
-          let s = ih h in
-          record {
-            place = suc (s .place);
-            request = s .request;
-            placed = s .placed;
-            goes = s .goes;
-            before = (rw b refl, s .before);
-            becomes = rw b (ap (λ (x : List StunRequestState). q ∷ x) (s .becomes));
-          }
-      go Rests b h ih =
-          let s = ih h in
-          record {
-            place = suc (s .place);
-            request = s .request;
-            placed = s .placed;
-            goes = s .goes;
-            before = (rw b refl, s .before);
-            becomes = rw b (ap (λ (x : List StunRequestState). r ∷ x) (s .becomes));
-          }
+      go (Passes q) b h ih = sent-onward r q p rs (walk t now rs .after) (ap goesOut b) (ap (recordAfter r) b) (ih h)
+      go Rests b h ih = sent-onward r r p rs (walk t now rs .after) (ap goesOut b) (ap (recordAfter r) b) (ih h)
 
   -- a request that doesn't go out is passed by
   met-quiet : (r : StunRequestState) (rs : List StunRequestState) → goesOut (transmitOf t now r) ≡ false
       → walk t now (r ∷ rs) ≡ record { out = walk t now rs .out; after = passedBy t now r ∷ walk t now rs .after }
   met-quiet r rs e = go (transmitOf t now r) e
     where
-      go : (s : StunRequestTransmit) → goesOut s ≡ false → met t now s r rs ≡ record { out = walk t now rs .out; after = recordAfter r s ∷ walk t now rs .after }
+      go : (s : StunRequestTransmit) → goesOut s ≡ false → walkOn t now s r rs ≡ record { out = walk t now rs .out; after = recordAfter r s ∷ walk t now rs .after }
       go (Goes p) e = apart e
       go (Passes p) e = refl
       go Rests e = refl
@@ -151,7 +145,7 @@ module _ (t : Transport) (now : ℕ) where
   quiet-says [] e = tt
   quiet-says (r ∷ rs) e = go (transmitOf t now r) e (quiet-says rs)
     where
-      go : (s : StunRequestTransmit) → met t now s r rs .out ≡ Quiet → (walk t now rs .out ≡ Quiet → NoneGoes t now rs)
+      go : (s : StunRequestTransmit) → walkOn t now s r rs .out ≡ Quiet → (walk t now rs .out ≡ Quiet → NoneGoes t now rs)
           → (goesOut s ≡ false) × NoneGoes t now rs
       go (Goes p) h ih = let z : _≡_ {A = ℕ} 0 1 = cc in absurd (omega arith)
       go (Passes p) h ih = (refl, ih h)
@@ -215,7 +209,7 @@ module _ (t : Transport) (now : ℕ) where
       p : (eqb (keyOf r) k ≡ false) × (among k (keysOf rs) ≡ false)
       p = neither (eqb (keyOf r) k) (among k (keysOf rs)) n
 
-      go : (s : StunRequestTransmit) → transmitOf t now r ≡ s → OtherKey k (walk t now rs .out) → OtherKey k (met t now s r rs .out)
+      go : (s : StunRequestTransmit) → transmitOf t now r ≡ s → OtherKey k (walk t now rs .out) → OtherKey k (walkOn t now s r rs .out)
       go (Goes q) e ih = λ z. eqb-false (keyOf r) k (p .0) (sym (ap key (goes-same t now r q e .id)) ∙ z)
       go (Passes q) e ih = ih
       go Rests e ih = ih
@@ -232,7 +226,7 @@ module _ (t : Transport) (now : ℕ) where
       as-passed q z g = subst (λ (u : StunRequestState). Met t now r (walk t now xs .out) u) z (passed g absent)
 
       go : (a : StunRequestTransmit) → transmitOf t now r ≡ a
-          → (q : StunRequestState) × (getElem? (met t now a r xs .after) 0 ≡ some q) × Met t now r (met t now a r xs .out) q
+          → (q : StunRequestState) × (getElem? (walkOn t now a r xs .after) 0 ≡ some q) × Met t now r (walkOn t now a r xs .out) q
       go (Goes p) b = (p, refl, sent b)
       go (Passes p) b = (p, refl, as-passed p (ap (recordAfter r) b) (ap goesOut b))
       go Rests b = (r, refl, as-passed r (ap (recordAfter r) b) (ap goesOut b))
@@ -241,7 +235,7 @@ module _ (t : Transport) (now : ℕ) where
     where
       go : (a : StunRequestTransmit) → transmitOf t now x ≡ a
           → (q : StunRequestState) × (getElem? (walk t now xs .after) i ≡ some q) × Met t now r (walk t now xs .out) q
-          → (q : StunRequestState) × (getElem? (met t now a x xs .after) (suc i) ≡ some q) × Met t now r (met t now a x xs .out) q
+          → (q : StunRequestState) × (getElem? (walkOn t now a x xs .after) (suc i) ≡ some q) × Met t now r (walkOn t now a x xs .out) q
       go (Goes p) b ih =
           (r, e, unreached (λ z. placed-other (keyOf x) i r xs s e (sym (ap key (goes-same t now x p b .id)) ∙ z)))
       go (Passes p) b ih = ih
@@ -304,3 +298,25 @@ module _ (t : Transport) (now : ℕ) (r : StunRequestState) where
         go (Sends p) k = other k
         go Quiet k = none-goes e
     loud-met (unreached k) = other k
+
+-- ---- the same scan over other places, such as the rows of a table
+
+module _ {A : Type 0} (get : A → StunRequestState) (new : StunRequestState → A) (t : Transport) (now : ℕ) where
+  -- each place made anew with the record that the scan leaves reads as that record
+  abbrev pub Renews : List A → Type 0
+  Renews [] = Unit
+  Renews (x ∷ xs) = (get (new (passedBy t now (get x))) ≡ passedBy t now (get x)) × Renews xs
+
+  -- the scan finds the same, and the places read as the requests that it leaves
+  pub walk-by : (xs : List A) → Renews xs
+      → (walkBy get new t now xs .out ≡ walk t now (map get xs) .out) × (map get (walkBy get new t now xs .after) ≡ walk t now (map get xs) .after)
+  walk-by [] n = (refl, refl)
+  walk-by (x ∷ xs) n = go (transmitOf t now (get x)) (n .0) (walk-by xs (n .1))
+    where
+      go : (s : StunRequestTransmit) → get (new (recordAfter (get x) s)) ≡ recordAfter (get x) s
+          → (walkBy get new t now xs .out ≡ walk t now (map get xs) .out) × (map get (walkBy get new t now xs .after) ≡ walk t now (map get xs) .after)
+          → (meet new s x xs (walkBy get new t now xs) .out ≡ walkOn t now s (get x) (map get xs) .out)
+          × (map get (meet new s x xs (walkBy get new t now xs) .after) ≡ walkOn t now s (get x) (map get xs) .after)
+      go (Goes p) k ih = (refl, rw k)
+      go (Passes p) k ih = (ih .0, rw (k, ih .1))
+      go Rests k ih = (ih .0, rw (ih .1))

@@ -28,7 +28,7 @@ use Rattle.requests.specs.declared.Found.the-variants.{At, Nothing}
 use Rattle.requests.proofs.Lists.{neither, some-same, none-some, placed-below, placed-split, placed-set, map-set, ascending-tail, ascending-lower, ascending-absent, insert-different, remove-different, remove-ascending}
 
 -- one place further on
-abbrev onward : Found → Found
+abbrev pub onward : Found → Found
 onward (At i r) = At (suc i) r
 onward Nothing = Nothing
 

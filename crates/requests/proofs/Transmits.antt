@@ -3,9 +3,9 @@
 --     walk-sends, walk-first, sent-placed, sent-key    the request that goes out is the first that would
 --     quiet-exactly, walk-quiet                        none goes out
 --     transmit-at, transmit-found, transmit-none       what it makes of the request at a place, or with an identifier
---     loud-stays, loud-met                             of one that isn't silenced: that depends on the request and the clock
+--     loud-stays, loud-met, changes-exactly            of one that isn't silenced: that depends on the request and the clock
 --     walk-by                                          the scan over other places that hold a request each
-use Prim.Native.Nat.{ℕ, zero, suc, _≤_}
+use Prim.Native.Nat.{ℕ, zero, suc, _+_, _≤_}
 use mathlib.Core.Path.{_≡_, refl, sym, ap, _∙_, subst}
 use mathlib.Core.Bool.{Bool, true, false, cond}
 use mathlib.Core.Logic.{_↔_}
@@ -19,13 +19,15 @@ use Rattle.rows.specs.Lists.{among}
 use Rattle.message.specs.Head.{key}
 use Rattle.waits.specs.declared.Transport.{Transport}
 use Rattle.request.specs.Times.{isDue}
-use Rattle.request.specs.Request.{stepped, transmitOf}
+use Rattle.request.specs.Request.{steppedBy, stepped, transmitOf}
 use Rattle.request.specs.Answers.{goesOut, recordAfter}
 use Rattle.request.specs.Kept.{SameRequest}
+use Rattle.request.specs.declared.SendTimes.{SendTimes}
+use Rattle.request.specs.declared.SendTimes.the-variants.{Never, Sent}
 use Rattle.request.specs.declared.StunRequestState.{StunRequestState}
 use Rattle.request.specs.declared.StunRequestTransmit.{StunRequestTransmit}
 use Rattle.request.specs.declared.StunRequestTransmit.the-variants.{Rests, Passes, Goes}
-use Rattle.request.proofs.Kept.{same-itself, same-transmit}
+use Rattle.request.proofs.Kept.{same-itself, same-stepped, same-transmit}
 use Rattle.request.proofs.Limits.{transmit-limits}
 use Rattle.request.specs.Limits.{RequestLimits}
 use Rattle.requests.specs.Search.{keyOf, keysOf, rowOf, rowsOf, lookup}
@@ -298,6 +300,28 @@ module _ (t : Transport) (now : ℕ) (r : StunRequestState) where
         go (Sends p) k = other k
         go Quiet k = none-goes e
     loud-met (unreached k) = other k
+
+-- it changes exactly when it is the one that goes out
+pub stepped-changes : (now : ℕ) (r : StunRequestState) → stepped now r ≡ r → ⊥
+unfolding stepped
+stepped-changes now r e = go (r .«send_times») refl e
+  where
+    go : (ts : SendTimes) → r .«send_times» ≡ ts → steppedBy now r ts ≡ r → ⊥
+    go Never f e =
+        let s : Sent now now ≡ r .«send_times» = ap (λ (q : StunRequestState). q .«send_times») e in
+        let z : _≡_ {A = ℕ} 0 1 = cc in omega arith
+    go (Sent first last) f e =
+        let s : r .«timeout_i» + 1 ≡ r .«timeout_i» = ap (λ (q : StunRequestState). q .«timeout_i») e in
+        omega arith
+
+pub changes-exactly : {t : Transport} {now : ℕ} {r q : StunRequestState} {o : Transmitted} → MetLoud t now r o q
+    → (q ≡ r → ⊥) ↔ (o ≡ Sends (stepped now r))
+changes-exactly {t} {now} {r} (goes e) = (λ n. refl, λ s z. stepped-changes now r z)
+changes-exactly {t} {now} {r} (other {p} n) = (
+  λ f. absurd (f refl),
+  λ s z. let e : p ≡ stepped now r = cc in n (ap keyOf e ∙ ap key (same-stepped r now .id)),
+)
+changes-exactly {t} {now} {r} (none-goes e) = (λ f. absurd (f refl), λ s z. let y : _≡_ {A = ℕ} 0 1 = cc in omega arith)
 
 -- ---- the same scan over other places, such as the rows of a table
 

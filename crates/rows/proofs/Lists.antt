@@ -4,7 +4,7 @@ use mathlib.Core.Path.{_≡_, refl, sym, ap}
 use mathlib.Core.List.{List, [], _∷_, _++_, map}
 use native.Mathlib.Nat.{le-of-suc-le-suc, not-suc-le-zero, zero-add, suc-add}
 use native.Mathlib.Omega.{arith}
-use lib.ListN.{length, take, drop, getD}
+use lib.ListN.{length, take, drop, getD, set}
 use lib.Seq.{slice, take-nil, drop-nil, take-suc, drop-append-le, length-take-le}
 use Rattle.rows.specs.Lists.{insertAt, removeAt}
 
@@ -40,3 +40,13 @@ module _ {A B : Type 0} (f : A → B) where
   map-removeAt [] i = refl
   map-removeAt (y ∷ l) zero = refl
   map-removeAt (y ∷ l) (suc i) = ap (λ (t : List B). f y ∷ t) (map-removeAt l i)
+
+  pub map-set : (l : List A) (i : ℕ) (x : A) → map f (set l i x) ≡ set (map f l) i (f x)
+  map-set [] i x = refl
+  map-set (y ∷ l) zero x = refl
+  map-set (y ∷ l) (suc i) x = ap (λ (t : List B). f y ∷ t) (map-set l i x)
+
+  pub drop-map : (i : ℕ) (l : List A) → drop i (map f l) ≡ map f (drop i l)
+  drop-map zero l = refl
+  drop-map (suc i) [] = refl
+  drop-map (suc i) (y ∷ l) = drop-map i l

@@ -2,7 +2,7 @@
 --     rows-next, length-rows, joined-rows    the rows one by one, how many, and put together again
 --     rows-put, drop-put, length-put         one row written
 --     rows-past                              a store behind the rows
---     put-put                                two stores side by side are one
+--     put-put, sets-put                      stores side by side are one
 --     held                                   words from the rows that they hold and what is behind
 --     rows-with                              the rows of words that were made of rows
 --     wide-rows, wide-insert, wide-remove    rows that have w words each
@@ -10,10 +10,10 @@ use Prim.Native.Nat.{ℕ, zero, suc, _+_, _-_, _*_, _≤_, _<_}
 use mathlib.Core.Path.{_≡_, refl, sym, ap, _∙_}
 use mathlib.Core.List.{List, [], _∷_, _++_, append-assoc}
 use native.Mathlib.Nat.{le-of-suc-le-suc, not-suc-le-zero, zero-add, zero-mul, suc-mul, add-comm, add-assoc, add-zero, mul-le-mul-right}
-use native.Mathlib.Numerals.{add-one, add-two, add-three}
+use native.Mathlib.Numerals.{add-one}
 use native.Mathlib.Omega.{arith}
 use lib.ListN.{length, take, drop, set, length-append, length-drop, take-append-drop}
-use lib.Seq.{take-add, drop-drop, take-at, drop-at, drop-append-le, length-take-le, take-take, sets-eq}
+use lib.Seq.{take-add, drop-drop, take-at, drop-at, drop-append-le, length-take-le, take-take, sets, sets-eq}
 use Rattle.rows.proofs.Lists.{slice-drop}
 use Rattle.rows.specs.Lists.{insertAt, removeAt}
 use Rattle.rows.specs.Rows.{row, rows, joined, putAt, withRows}
@@ -55,10 +55,10 @@ module _ (t : List ℕ) (b : ℕ) (ws : List ℕ) (h : b + length ws ≤ length 
 pub put-more : (t t₁ t₂ : List ℕ) (b : ℕ) (ws vs : List ℕ) → b + length ws ≤ length t → t₁ ≡ putAt t b ws → t₂ ≡ putAt t₁ (b + length ws) vs → t₂ ≡ putAt t b (ws ++ vs)
 put-more t t₁ t₂ b ws vs h e f = f ∙ ap (λ (l : List ℕ). putAt l (b + length ws) vs) e ∙ put-put t b ws h vs
 
--- four stores one behind the other
-pub four-put : (t : List ℕ) (b w x y z : ℕ) → b + 4 ≤ length t → set (set (set (set t b w) (b + 1) x) (b + 2) y) (b + 3) z ≡ putAt t b (w ∷ x ∷ y ∷ z ∷ [])
+-- stores one behind the other, as many as there are
+pub sets-put : (t : List ℕ) (b : ℕ) (ws : List ℕ) → b + length ws ≤ length t → sets t b ws ≡ putAt t b ws
 unfolding putAt
-four-put t b w x y z h = rw (add-one b, add-two b, add-three b) (sets-eq (w ∷ x ∷ y ∷ z ∷ []) t b h)
+sets-put t b ws h = sets-eq ws t b h
 
 put-zero : (t ws : List ℕ) → putAt t 0 ws ≡ ws ++ drop (length ws) t
 unfolding putAt

@@ -1,0 +1,2 @@
+-- Theorems about the model.
+mod Worked

@@ -1,2 +1,4 @@
 -- Theorems about the model.
 mod Worked
+pub mod Refused
+pub mod State

@@ -9,7 +9,6 @@ use Rattle.rows.specs.Lists.{removeAt}
 use Rattle.address.specs.declared.Address.{Address}
 use Rattle.message.specs.Head.{key}
 use Rattle.message.specs.Attributes.{messageOf}
-use Rattle.message.specs.declared.TransactionId.{TransactionId}
 use Rattle.message.specs.declared.MessageClass.{MessageClass}
 use Rattle.message.specs.declared.MessageClass.the-variants.{Request, Indication, Success, Error}
 use Rattle.message.specs.declared.Message.{Message}
@@ -35,36 +34,7 @@ use Rattle.requests.specs.declared.Transmitted.the-variants.{Sends, Quiet}
 use Rattle.requests.specs.declared.Polled.{Polled}
 use Rattle.requests.specs.declared.Polled.the-variants.{TimedOut, Cancelled, WaitUntil}
 use Rattle.model.specs.World.{World, known}
-use Rattle.model.specs.Calls.{
-  Passage,
-  submits,
-  sends,
-  receives,
-  Scan,
-  transmits,
-  reports,
-  Wish,
-  silence,
-  cancel,
-  configure,
-  query,
-  Meeting,
-  ask,
-  validate,
-  Figure,
-  numbers,
-  mean,
-  unsettled,
-  anew,
-  Kind,
-  carries,
-  scans,
-  names,
-  meets,
-  counts,
-  clockOf,
-  onSome,
-}
+use Rattle.model.specs.Calls.{Passage, submits, sends, receives, Scan, transmits, reports, Wish, silence, cancel, configure, query, Meeting, ask, validate, Figure, numbers, mean, unsettled, anew, Kind, carries, scans, names, meets, counts, clockOf, onSome}
 use Rattle.model.specs.Accepts.{onMessage, isResponse, accepts, newPeer}
 use Rattle.model.specs.declared.Answer.{Answer}
 use Rattle.model.specs.declared.Answer.the-variants as answer

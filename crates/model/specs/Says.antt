@@ -1,6 +1,6 @@
 -- What every call answers and leaves; a fresh agent; the part of the store that is handed out for a transmission.
 use Prim.Native.Nat.{ℕ, zero, suc}
-use mathlib.Core.Bool.{Bool, true, false, cond, _&&_, _||_}
+use mathlib.Core.Bool.{Bool, false, cond, _&&_, _||_}
 use mathlib.Core.List.{List, [], _∷_}
 use lib.Dec.{eqb}
 use Rattle.address.specs.declared.Address.{Address}

@@ -1,4 +1,8 @@
 -- Theorems about the model.
 mod Worked
+pub mod Below
 pub mod Refused
 pub mod State
+pub mod Changes
+pub mod Peers
+pub mod Kept

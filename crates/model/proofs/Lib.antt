@@ -6,3 +6,5 @@ pub mod State
 pub mod Changes
 pub mod Peers
 pub mod Kept
+pub mod Store
+pub mod Parts

@@ -1,16 +1,18 @@
 -- Facts about the layers below that the theorems need besides their exported laws.
 --     good-length       a message that isn't bad has its head's twenty bytes
 --     Submission, submission    the fields of a request as submitted
+--     default-limits, timed-out-exactly    the default settings are within limits; when a request with all steps passed has timed out
 --     byte-kept         a copy to a row's start changes no byte outside of it
-use Prim.Native.Nat.{ℕ, _+_, _-_, _*_, _≤_, _<_}
-use mathlib.Core.Path.{_≡_, refl, ap, _∙_}
-use mathlib.Core.Bool.{Bool, true, false, cond, and-eq-true-iff}
-use mathlib.Core.Logic.{_⊎_, inl, inr}
+use Prim.Native.Nat.{ℕ, _+_, _-_, _*_, _≤_, _<_, max}
+use mathlib.Core.Path.{_≡_, refl, sym, ap, _∙_}
+use mathlib.Core.Bool.{Bool, true, false, cond, _&&_, and-eq-true-iff}
+use mathlib.Core.Logic.{_↔_, _⊎_, inl, inr}
 use mathlib.Core.List.{List, _++_}
 use native.Mathlib.Omega.{arith}
 use lib.ListN.{length, take, drop, getD, List·getD-append}
 use lib.Seq.{length-take-le, getD-take, getD-drop, getD-append-add}
-use borrow.Author.Tests.{leb-true}
+use lib.Dec.{leb}
+use borrow.Author.Tests.{leb-true, leb-false}
 use Rattle.address.specs.declared.Address.{Address}
 use Rattle.message.specs.Head.{headGood, headOf, readHead}
 use Rattle.message.specs.Attributes.{walkOf, withWalk, messageOf}
@@ -21,10 +23,15 @@ use Rattle.message.specs.declared.Head.{Head}
 use Rattle.message.specs.declared.Head.the-variants.{Good as GoodHead, Bad as BadHead}
 use Rattle.message.specs.declared.Walk.{Walk}
 use Rattle.message.specs.declared.Parsed.the-variants.{Good}
+use Rattle.waits.specs.Waits as waits
 use Rattle.waits.specs.declared.RequestRto.{RequestRto}
+use Rattle.waits.specs.declared.Transport.{Transport}
 use Rattle.store.specs.Rows.{inStore, stored, copied}
 use Rattle.store.proofs.Rows.{is-part}
-use Rattle.request.specs.Request.{submitted}
+use Rattle.request.specs.Times.{passedAll, endOf, overBy, isOver, momentOf}
+use Rattle.request.specs.Request.{submitted, pollOf}
+use Rattle.request.specs.declared.StunRequestPollRet.the-variants.{WaitUntil, Cancelled, TimedOut}
+use Rattle.requests.proofs.Lists.{apart}
 use Rattle.request.specs.declared.SendTimes.the-variants.{Sent}
 use Rattle.request.specs.declared.StunRequestState.{StunRequestState}
 
@@ -71,6 +78,34 @@ submission now id integrity row len to rto = record {
   count-is = refl;
   times-are = refl;
 }
+
+-- ---- the end of a request
+
+pub default-limits : waits.Limits waits.defaultRto
+unfolding waits.defaultRto
+default-limits = record { count = omega arith; initial = omega arith; most = omega arith; last = omega arith }
+
+module _ (t : Transport) (now : ℕ) (r : StunRequestState) (first last : ℕ) (sent : r .«send_times» ≡ Sent first last) (passed : passedAll t r ≡ true) where
+  over-is : isOver t now r ≡ leb (last + waits.finalWait t (r .rto)) now
+  unfolding isOver endOf
+  over-is = ap (overBy t now r) sent ∙ rw passed
+
+  pub timed-out-exactly : r .«recv_cancelled» ≡ false → (pollOf t now r ≡ TimedOut) ↔ (last + waits.finalWait t (r .rto) ≤ now)
+  unfolding pollOf
+  timed-out-exactly kept = go (r .«recv_cancelled») (isOver t now r) (r .«send_cancelled» && passedAll t r) kept over-is
+    where
+      go : (recv over out : Bool) → recv ≡ false → over ≡ leb (last + waits.finalWait t (r .rto)) now
+          → (cond recv Cancelled (cond over TimedOut (cond out Cancelled (WaitUntil (max now (momentOf t now r))))) ≡ TimedOut) ↔ (last + waits.finalWait t (r .rto) ≤ now)
+      go true over out k e = apart k
+      go false true out k e = (λ z. leb-true (last + waits.finalWait t (r .rto)) now (sym e), λ h. refl)
+      go false false true k e = (
+        λ z. absurd (let y : _≡_ {A = ℕ} 0 1 = cc in omega arith),
+        λ h. absurd (omega (arith, leb-false (last + waits.finalWait t (r .rto)) now (sym e))),
+      )
+      go false false false k e = (
+        λ z. absurd (let y : _≡_ {A = ℕ} 0 1 = cc in omega arith),
+        λ h. absurd (omega (arith, leb-false (last + waits.finalWait t (r .rto)) now (sym e))),
+      )
 
 -- ---- the store, byte by byte
 

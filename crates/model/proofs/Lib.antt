@@ -8,3 +8,4 @@ pub mod Peers
 pub mod Kept
 pub mod Store
 pub mod Parts
+pub mod Default

@@ -3,7 +3,8 @@
 --     peers-kept                  every other place is as it was
 --     peer-joined, peers-same     a new peer stands behind the last one; without a new one nothing changes
 --     peers-put                   the same by the place that the call's address goes to
-use Prim.Native.Nat.{ℕ, _+_, _≤_}
+--     says-peers                  of any call, refused or not
+use Prim.Native.Nat.{ℕ, zero, suc, _+_, _≤_}
 use mathlib.Core.Path.{_≡_, refl, sym}
 use mathlib.Core.Bool.{Bool, true, false, cond}
 use mathlib.Core.List.{List}
@@ -19,8 +20,10 @@ use Rattle.message.specs.declared.Parsed.the-variants.{Good, Bad}
 use Rattle.model.specs.World.{World, known}
 use Rattle.model.specs.Calls.{submits, sends, receives, ask, validate, Kind, carries, scans, names, meets, counts, addressOf, onSome}
 use Rattle.model.specs.Accepts.{onMessage, accepts, validated, newPeer}
-use Rattle.model.specs.Refusals.{Refusal, holds}
-use Rattle.model.specs.Effects.{peerPlace, peersAfter, peerCount}
+use Rattle.model.specs.Refusals.{Refusal, holds, refusalOf}
+use Rattle.model.specs.Effects.{peerPlace, peersAfter, peerCount, after}
+use Rattle.model.specs.Says.{saysOf}
+use Rattle.model.proofs.Refused.{refused-same, passed-does}
 use Rattle.model.proofs.Changes.{peer-fits}
 
 absent : {A C : Type 0} {a : A} → none ≡ some a → C
@@ -105,3 +108,18 @@ count-fits rows w k m passes h = rw (length-peers w k m) (go (newPeer w k m) ref
     go : (o : Option Address) → newPeer w k m ≡ o → onSome o (w .agent .peers) (λ a. w .agent .peers + 1) ≤ length (w .peers)
     go none e = h
     go (some a) e = omega (arith, peer-fits rows w k m passes a e)
+
+-- Of any call, refused or not: no place but the one behind the last peer changes, and the list has the length that it had.
+module _ (rows : ℕ) (w : World) (k : Kind) (m : List ℕ) where
+  after-peers : after rows w k m .peers ≡ peersAfter w k m
+  unfolding after
+  after-peers = refl
+
+  pub says-peers : (length (saysOf rows w k m .world .peers) ≡ length (w .peers))
+      × ((i : ℕ) (d : Address) → (i ≡ w .agent .peers → ⊥) → getD (saysOf rows w k m .world .peers) i d ≡ getD (w .peers) i d)
+  says-peers = go (refusalOf rows w k m) refl
+    where
+      go : (n : ℕ) → refusalOf rows w k m ≡ n → (length (saysOf rows w k m .world .peers) ≡ length (w .peers))
+          × ((i : ℕ) (d : Address) → (i ≡ w .agent .peers → ⊥) → getD (saysOf rows w k m .world .peers) i d ≡ getD (w .peers) i d)
+      go zero e = rw (passed-does rows w k m e, after-peers) (length-peers w k m, peers-kept w k m)
+      go (suc n) e = rw (refused-same rows w k m n e) (refl, λ i d h. refl)

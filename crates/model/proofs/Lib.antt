@@ -1,5 +1,6 @@
 -- Theorems about the model.
 mod Worked
+mod Useless
 pub mod Below
 pub mod Refused
 pub mod State

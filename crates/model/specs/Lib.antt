@@ -5,3 +5,4 @@ pub mod Refusals
 pub mod Effects
 pub mod Says
 pub mod Worked
+pub mod Useless

@@ -84,7 +84,7 @@ figures sent answered timed cancelled out into = record {
   «rtt_count» = 0;
 }
 
--- Calls, each with its message, one after the other: what each of them answers.
+-- Calls, each with its message, one after the other: what each of them answers, and the world that they leave.
 pub record Turn : Type 0 where
   pub made : Call
   pub bytes : List ℕ
@@ -98,6 +98,10 @@ plain c = with c []
 unfoldable pub answers : ℕ → World → List Turn → List Answer
 answers rows w [] = []
 answers rows w (t ∷ ts) = says rows w (t .made) (t .bytes) .answer ∷ answers rows (says rows w (t .made) (t .bytes) .world) ts
+
+unfoldable pub left : ℕ → World → List Turn → World
+left rows w [] = w
+left rows w (t ∷ ts) = left rows (says rows w (t .made) (t .bytes) .world) ts
 
 -- Document 01's whole example, without its first line: "settings UDP, 0, 500000000, 2^61, 2, 8000000000".
 abbrev pub exampleStart : World

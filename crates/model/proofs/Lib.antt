@@ -9,4 +9,6 @@ pub mod Peers
 pub mod Kept
 pub mod Store
 pub mod Parts
+pub mod Statistics
+pub mod Received
 pub mod Default

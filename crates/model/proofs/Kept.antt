@@ -1,11 +1,11 @@
 -- What every call keeps: a well-formed world stays well formed, and an agent has the transport, the settings and the statistics, on or
 -- off, that it was built with.
---     after-formed, says-formed, call-formed    well formed
---     says-agent                                as it was built
+--     after-formed, says-formed, call-formed, run-formed    well formed
+--     says-agent                                            as it was built
 use Prim.Native.Nat.{ℕ, zero, suc}
 use mathlib.Core.Path.{_≡_, refl, ap, _∙_}
 use mathlib.Core.Bool.{false}
-use mathlib.Core.List.{List}
+use mathlib.Core.List.{List, [], _∷_}
 use native.Mathlib.Omega.{arith}
 use lib.ListN.{length}
 use Rattle.store.proofs.Rows.{length-copied}
@@ -15,6 +15,7 @@ use Rattle.model.specs.Refusals.{Refusal, holds, refusalOf}
 use Rattle.model.specs.Effects.{Change, keeps, adds, removes, sets, steps, countAfter, changeOf, storedBy, markAfter, after}
 use Rattle.model.specs.Says.{saysOf, says}
 use Rattle.model.specs.declared.StunAgent.{StunAgent}
+use Rattle.model.specs.Runs.{Turn, left}
 use Rattle.model.specs.declared.Call.{Call}
 use Rattle.model.proofs.Refused.{passed-exactly, refused-same, passed-does}
 use Rattle.model.proofs.Changes.{change-fits, mark-later, mark-most, changed-formed, changed-count}
@@ -71,3 +72,9 @@ module _ (rows : ℕ) (w : World) (k : Kind) (m : List ℕ) where
 
 pub call-formed : (rows : ℕ) (w : World) (c : Call) (m : List ℕ) → StateFormed rows w → StateFormed rows (says rows w c m .world)
 call-formed rows w c m formed = says-formed rows w (kindOf c) m formed
+
+pub run-formed : (rows : ℕ) (ts : List Turn) (w : World) → StateFormed rows w → StateFormed rows (left rows w ts)
+unfolding left
+run-formed rows [] w formed = formed
+run-formed rows (t ∷ ts) w formed =
+    run-formed rows ts (says rows w (t .made) (t .bytes) .world) (call-formed rows w (t .made) (t .bytes) formed)

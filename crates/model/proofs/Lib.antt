@@ -4,6 +4,7 @@ mod Useless
 pub mod Below
 pub mod Refused
 pub mod State
+pub mod Classes
 pub mod Changes
 pub mod Peers
 pub mod Kept
@@ -12,3 +13,4 @@ pub mod Parts
 pub mod Statistics
 pub mod Received
 pub mod Default
+pub mod Outcomes

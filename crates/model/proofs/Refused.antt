@@ -3,7 +3,6 @@
 --     refused-named                      every number that a call is refused by is one of document 01's
 --     refused-same, passed-does          a refused call answers its number and changes nothing; another one has its effect
 --     bad-state-first, past-state        the test of the state, and those behind it
---     one-outcome                        at most one outcome is what the model says
 use Prim.Native.Nat.{ℕ, zero, suc, _+_, _<_}
 use mathlib.Core.Path.{_≡_, refl, sym, ap, _∙_}
 use mathlib.Core.Bool.{Bool, true, false, cond}
@@ -17,8 +16,7 @@ use Rattle.model.specs.World.{World, stateFormed}
 use Rattle.model.specs.Calls.{Kind}
 use Rattle.model.specs.Refusals.{Refusal, STATE, SETTINGS, CLOCK, TOO-LONG, BAD-MESSAGE, WRONG-CLASS, IN-PROGRESS, TABLE-FULL, NO-REQUEST, PEERS-FULL, NO-STATS, COUNTS, numberOf, holds, refusals, lowest, refusalOf, refusalPast}
 use Rattle.model.specs.Effects.{answerOf, after}
-use Rattle.model.specs.Says.{Said, saysOf, says}
-use Rattle.model.specs.declared.Call.{Call}
+use Rattle.model.specs.Says.{saysOf}
 use Rattle.model.specs.declared.Answer.the-variants as answer
 
 -- ---- the table: numbers from 1 on, without a gap, and each refusal stands in it
@@ -188,24 +186,3 @@ module _ (rows : ℕ) (w : World) (k : Kind) (m : List ℕ) where
   pub passed-does : refusalOf rows w k m ≡ 0 → saysOf rows w k m ≡ record { answer = answerOf rows w k m; world = after rows w k m }
   unfolding saysOf
   passed-does e = rw e
-
--- At most one outcome is what the model says: the answer, the agent, the requests, every lent byte, peer and number.
-pub record SameOutcome (s t : Said) : Type 0 where
-  pub answer : s .answer ≡ t .answer
-  pub agent : s .world .agent ≡ t .world .agent
-  pub requests : s .world .requests ≡ t .world .requests
-  pub store : s .world .store ≡ t .world .store
-  pub peers : s .world .peers ≡ t .world .peers
-  pub stats : s .world .stats ≡ t .world .stats
-
-pub one-outcome : (rows : ℕ) (w : World) (c : Call) (m : List ℕ) (s t : Said) → s ≡ says rows w c m → t ≡ says rows w c m → SameOutcome s t
-one-outcome rows w c m s t e f =
-    let z : s ≡ t = e ∙ sym f in
-    record {
-      answer = ap (λ (u : Said). u .answer) z;
-      agent = ap (λ (u : Said). u .world .agent) z;
-      requests = ap (λ (u : Said). u .world .requests) z;
-      store = ap (λ (u : Said). u .world .store) z;
-      peers = ap (λ (u : Said). u .world .peers) z;
-      stats = ap (λ (u : Said). u .world .stats) z;
-    }

@@ -1,10 +1,11 @@
 -- An accepted request stands in the list, and its bytes at its row's start; nothing else in the store changes, nor in any other call.
 --     part-of-found       the part handed out for an outstanding request is its row's
+--     part-refused, part-unused    no part where 1 would apply, nor of a row not in use or for another length
 --     request-accepted    an accepted `send_request`
 --     store-other         any other call
 use Prim.Native.Nat.{ℕ, zero, suc, _+_, _*_, _≤_, _<_}
 use mathlib.Core.Path.{_≡_, refl, sym, ap, _∙_, subst}
-use mathlib.Core.Bool.{Bool, true, false, cond, not, _&&_, _||_}
+use mathlib.Core.Bool.{Bool, true, false, cond, not, _&&_, _||_, and-false}
 use mathlib.Core.Logic.{_⊎_}
 use mathlib.Core.List.{List, [], _∷_}
 use mathlib.Core.Option.{some}
@@ -35,7 +36,7 @@ use Rattle.requests.specs.declared.Polled.the-variants.{TimedOut, Cancelled, Wa
 use Rattle.requests.proofs.Lists.{apart, some-same, none-some}
 use Rattle.requests.proofs.Search.{found-at, lookup-added}
 use Rattle.requests.proofs.Free.{free-row, free-exists}
-use Rattle.model.specs.World.{World, StateFormed}
+use Rattle.model.specs.World.{World, StateFormed, stateFormed}
 use Rattle.model.specs.Calls.{submits, sends, receives, transmits, reports, Wish, silence, cancel, configure, query, Kind, carries, scans, names, meets, counts, passageOf, onSome}
 use Rattle.model.specs.Accepts.{onMessage, accepts, isResponse}
 use Rattle.model.specs.Refusals.{Refusal, BAD-MESSAGE, WRONG-CLASS, TABLE-FULL, isRequest, isSubmitted, holds, refusalOf}
@@ -65,6 +66,15 @@ pub part-of-found : (rows : ℕ) (w : World) (k i : ℕ) (r : StunRequestState) 
 unfolding transmissionOf
 part-of-found rows w k i r s e =
     rw (state-exactly rows w .1 s, placed-in-use (w .requests) i r (found-at k i r (w .requests) e .placed))
+
+module _ (rows : ℕ) (w : World) (row len : ℕ) where
+  pub part-refused : stateFormed rows w ≡ false → transmissionOf rows w row len ≡ []
+  unfolding transmissionOf
+  part-refused e = rw e
+
+  pub part-unused : inUse row len (w .requests) ≡ false → transmissionOf rows w row len ≡ []
+  unfolding transmissionOf
+  part-unused e = rw (e, and-false)
 
 -- ---- an accepted request
 

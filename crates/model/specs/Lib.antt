@@ -4,5 +4,6 @@ pub mod Accepts
 pub mod Refusals
 pub mod Effects
 pub mod Says
+pub mod Runs
 pub mod Worked
 pub mod Useless

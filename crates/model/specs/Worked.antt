@@ -15,8 +15,8 @@ use Rattle.stats.specs.Count.{zeroed}
 use Rattle.stats.specs.declared.StunAgentStats.{StunAgentStats}
 use Rattle.stats.specs.declared.Rtt.the-variants.{Absent, Nanos}
 use Rattle.model.specs.World.{World}
-use Rattle.model.specs.Says.{says, fresh}
-use Rattle.model.specs.declared.Call.{Call}
+use Rattle.model.specs.Says.{fresh}
+use Rattle.model.specs.Runs.{Turn, with, plain, answers}
 use Rattle.model.specs.declared.Call.the-variants as call
 use Rattle.model.specs.declared.Answer.{Answer}
 use Rattle.model.specs.declared.Answer.the-variants as answer
@@ -83,25 +83,6 @@ figures sent answered timed cancelled out into = record {
   «rtt_max» = Absent;
   «rtt_count» = 0;
 }
-
--- Calls, each with its message, one after the other: what each of them answers, and the world that they leave.
-pub record Turn : Type 0 where
-  pub made : Call
-  pub bytes : List ℕ
-
-abbrev pub with : Call → List ℕ → Turn
-with c m = record { made = c; bytes = m }
-
-abbrev pub plain : Call → Turn
-plain c = with c []
-
-unfoldable pub answers : ℕ → World → List Turn → List Answer
-answers rows w [] = []
-answers rows w (t ∷ ts) = says rows w (t .made) (t .bytes) .answer ∷ answers rows (says rows w (t .made) (t .bytes) .world) ts
-
-unfoldable pub left : ℕ → World → List Turn → World
-left rows w [] = w
-left rows w (t ∷ ts) = left rows (says rows w (t .made) (t .bytes) .world) ts
 
 -- Document 01's whole example, without its first line: "settings UDP, 0, 500000000, 2^61, 2, 8000000000".
 abbrev pub exampleStart : World

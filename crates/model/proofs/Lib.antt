@@ -4,6 +4,7 @@ mod Useless
 pub mod Below
 pub mod Refused
 pub mod State
+pub mod Answers
 pub mod Classes
 pub mod Changes
 pub mod Peers

@@ -32,6 +32,22 @@ pub record Said : Type 0 where
   pub answer : Answer
   pub world : World
 
+-- Document 01's refusal number in an answer, 0 for an answer of a call that wasn't refused.
+abbrev pub numberIn : Answer → ℕ
+numberIn (answer.Refused n) = n
+numberIn answer.Ok = 0
+numberIn answer.Yes = 0
+numberIn answer.No = 0
+numberIn answer.None = 0
+numberIn (answer.Send id to row len) = 0
+numberIn (answer.Wait clock) = 0
+numberIn (answer.TimedOut id) = 0
+numberIn (answer.Cancelled id) = 0
+numberIn (answer.Stats st) = 0
+numberIn (answer.Average rtt) = 0
+numberIn (answer.Outstanding n) = 0
+numberIn (answer.Request to integrity) = 0
+
 -- "A refused call answers its number and leaves state, statistics, store and peers unchanged, the clock mark included."
 abbrev pub decided : ℕ → World → Said → Said
 decided zero w done = done

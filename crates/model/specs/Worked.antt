@@ -3,7 +3,7 @@ use Prim.Native.Nat.{ℕ, _+_, _*_, _/_, _%_, _^_}
 use mathlib.Core.Path.{_≡_}
 use mathlib.Core.Bool.{Bool, true, false}
 use mathlib.Core.List.{List, [], _∷_, _++_}
-use lib.ListN.{length, replicate}
+use lib.ListN.{length, take, replicate}
 use Rattle.address.specs.declared.Address.{Address}
 use Rattle.address.specs.declared.Host.the-variants.{V4}
 use Rattle.message.specs.declared.TransactionId.{TransactionId}
@@ -15,8 +15,8 @@ use Rattle.stats.specs.Count.{zeroed}
 use Rattle.stats.specs.declared.StunAgentStats.{StunAgentStats}
 use Rattle.stats.specs.declared.Rtt.the-variants.{Absent, Nanos}
 use Rattle.model.specs.World.{World}
-use Rattle.model.specs.Says.{fresh}
-use Rattle.model.specs.Runs.{Turn, with, plain, answers}
+use Rattle.model.specs.Says.{fresh, transmissionOf}
+use Rattle.model.specs.Runs.{Turn, with, plain, answers, left}
 use Rattle.model.specs.declared.Call.the-variants as call
 use Rattle.model.specs.declared.Answer.{Answer}
 use Rattle.model.specs.declared.Answer.the-variants as answer
@@ -54,10 +54,10 @@ start rows places stats rto = fresh Udp stats rto (replicate (rows * 1024) 0) (r
 abbrev pub stream : World
 stream = fresh Tcp false defaultRto (replicate 1024 0) [] zeroed
 
--- A fresh agent with another record of statistics.
-abbrev pub recorded : Bool → StunAgentStats → World
-recorded stats st = record {
-  agent = start 1 0 stats defaultRto .agent;
+-- A fresh agent with statistics and another record of them.
+abbrev pub recorded : StunAgentStats → World
+recorded st = record {
+  agent = start 1 0 true defaultRto .agent;
   requests = [];
   store = replicate 1024 0;
   peers = [];
@@ -115,6 +115,11 @@ goes = answer.Send (ending 1) (peer 9) 0 20
 
 pub record Values : Type 0 where
   pub example : answers 32 exampleStart exampleCalls ≡ exampleAnswers
+  -- What is handed out: the part of its row, and none of another row, nor of another length, nor once the request is over.
+  pub part : transmissionOf 32 (left 32 exampleStart (take 1 exampleCalls)) 0 20 ≡ request 1
+  pub part-of-another-row : transmissionOf 32 (left 32 exampleStart (take 1 exampleCalls)) 1 20 ≡ []
+  pub part-of-another-length : transmissionOf 32 (left 32 exampleStart (take 1 exampleCalls)) 0 24 ≡ []
+  pub part-afterwards : transmissionOf 32 (left 32 exampleStart exampleCalls) 0 20 ≡ []
   -- Settings left unset: sends at 0, 500, 1,500, 3,500, 7,500, 15,500 and 31,500 ms, and the end 8,000 ms after the last of them.
   pub unset-udp :
       answers 1 (start 1 0 false defaultRto) (
@@ -163,6 +168,7 @@ pub record Values : Type 0 where
       ∷ plain call.RttAverage
       ∷ plain call.OutstandingRequests
       ∷ plain (call.RequestTransaction (ending 1))
+      ∷ plain (call.Poll 5)
       ∷ [])
       ≡ (answer.Refused 2
       ∷ answer.Refused 9
@@ -183,9 +189,10 @@ pub record Values : Type 0 where
       ∷ answer.Refused 11
       ∷ answer.Refused 11
       ∷ answer.Request (peer 9) None
+      ∷ answer.Refused 3
       ∷ [])
   pub refused-counts :
-      answers 1 (recorded true (figures 1 1 1 0 0 0)) (plain call.OutstandingRequests ∷ plain call.Reset ∷ plain call.OutstandingRequests ∷ [])
+      answers 1 (recorded (figures 1 1 1 0 0 0)) (plain call.OutstandingRequests ∷ plain call.Reset ∷ plain call.OutstandingRequests ∷ [])
       ≡ (answer.Refused 12 ∷ answer.Ok ∷ answer.Outstanding 0 ∷ [])
   -- Cancelled retransmissions and cancel; peers; one request timed out, one cancelled, one answered with a round trip of 7.
   pub silenced :
@@ -197,6 +204,14 @@ pub record Values : Type 0 where
       ∷ plain (call.Poll (milliseconds 500))
       ∷ [])
       ≡ (goes ∷ answer.Ok ∷ answer.Wait (milliseconds 500) ∷ answer.None ∷ answer.Cancelled (ending 1) ∷ [])
+  pub cancelled :
+      answers 1 (start 1 0 false (settings 500 1 8000)) (
+      with (call.SendRequest (peer 9) 0) (request 1)
+      ∷ plain (call.Cancel (ending 1))
+      ∷ plain (call.Poll (milliseconds 9000))
+      ∷ plain (call.Cancel (ending 1))
+      ∷ [])
+      ≡ (goes ∷ answer.Ok ∷ answer.Cancelled (ending 1) ∷ answer.Refused 9 ∷ [])
   pub met :
       answers 1 (start 1 1 false defaultRto) (
       plain (call.IsValidatedPeer (peer 7))
@@ -205,6 +220,7 @@ pub record Values : Type 0 where
       ∷ with (call.HandleStunMessage (peer 7)) (indication 3)
       ∷ with (call.HandleStunMessage (peer 8)) (indication 3)
       ∷ with (call.SendRequest (peer 9) 0) (message 0x0001 1 (0 ∷ 8 ∷ 0 ∷ 0 ∷ []))
+      ∷ with (call.HandleStunMessage (peer 7)) (request 1)
       ∷ plain (call.RequestTransaction (ending 1))
       ∷ [])
       ≡ (answer.No
@@ -213,6 +229,7 @@ pub record Values : Type 0 where
       ∷ answer.Yes
       ∷ answer.Refused 10
       ∷ answer.Send (ending 1) (peer 9) 0 24
+      ∷ answer.Yes
       ∷ answer.Request (peer 9) Sha1
       ∷ [])
   pub counted :

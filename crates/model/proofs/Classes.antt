@@ -24,7 +24,7 @@ use Rattle.model.specs.World.{World, StateFormed}
 use Rattle.model.specs.Calls.{submits, sends, receives, Scan, transmits, reports, Wish, Meeting, Figure, Kind, carries, scans, names, meets, counts, onSome}
 use Rattle.model.specs.Accepts.{onMessage, newPeer}
 use Rattle.model.specs.Refusals.{badSettings, badClock, tooLong, badMessage, wrongClass, inProgress, tableFull, noRequest, peersFull, noStats, badCounts, refusalOf, refusalPast}
-use Rattle.model.specs.Effects.{onFound, keeps, adds, steps, changed, countAfter, newRequest, answered, reported, wished, changeOf, handedOut, passageAnswer, transmitAnswer, pollAnswer, wishAnswer, meetingAnswer, figureAnswer, answerOf, eventBy, eventOf, storedBy, peersAfter, peerCount, markAfter, after}
+use Rattle.model.specs.Effects.{onFound, keeps, adds, steps, changed, newRequest, answered, reported, wished, changeOf, handedOut, passageAnswer, transmitAnswer, pollAnswer, wishAnswer, meetingAnswer, figureAnswer, answerOf, eventBy, eventOf, storedBy, peersAfter, after, agentAfter}
 use Rattle.model.specs.Says.{Said, saysOf}
 use Rattle.model.specs.declared.Answer.the-variants as answer
 use Rattle.model.proofs.Refused.{past-state, passed-does}
@@ -90,12 +90,7 @@ scan-passes rows w s now m formed low high =
 -- What a call that isn't refused answers and leaves.
 pub record Done (rows : ℕ) (w : World) (k : Kind) (m : List ℕ) (s : Said) : Type 0 where
   pub answer : s .answer ≡ answerOf rows w k m
-  pub transport : s .world .agent .transport ≡ w .agent .transport
-  pub stats-on : s .world .agent .stats ≡ w .agent .stats
-  pub rto : s .world .agent .rto ≡ w .agent .rto
-  pub mark : s .world .agent .mark ≡ markAfter w k
-  pub count : s .world .agent .requests ≡ countAfter (changeOf rows w k m) (w .agent .requests)
-  pub peer-count : s .world .agent .peers ≡ peerCount w k m
+  pub agent : s .world .agent ≡ agentAfter w k m (changeOf rows w k m)
   pub requests : s .world .requests ≡ changed (w .agent .transport) (changeOf rows w k m) (w .requests)
   pub store : s .world .store ≡ storedBy rows (w .store) m (changeOf rows w k m)
   pub peers : s .world .peers ≡ peersAfter w k m
@@ -106,12 +101,7 @@ module _ (rows : ℕ) (w : World) (k : Kind) (m : List ℕ) where
   unfolding after
   does = record {
     answer = refl;
-    transport = refl;
-    stats-on = refl;
-    rto = refl;
-    mark = refl;
-    count = refl;
-    peer-count = refl;
+    agent = refl;
     requests = refl;
     store = refl;
     peers = refl;

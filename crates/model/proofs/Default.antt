@@ -25,7 +25,8 @@ use Rattle.request.specs.declared.StunRequestState.{StunRequestState}
 use Rattle.request.specs.declared.StunRequestPollRet.the-variants.{TimedOut}
 use Rattle.model.specs.World.{World}
 use Rattle.model.specs.Refusals.{SETTINGS, numberOf}
-use Rattle.model.specs.Says.{Said, freshAgent, freshEvent, unset, buildOf}
+use Rattle.model.specs.Says.{Said}
+use Rattle.model.specs.Fresh.{freshAgent, freshEvent, unset, buildOf}
 use Rattle.model.specs.declared.StunAgentBuilder.{StunAgentBuilder}
 use Rattle.model.specs.declared.Built.the-variants.{Refused, Fresh}
 use Rattle.model.proofs.Below.{default-limits, timed-out-exactly, submission}

@@ -3,7 +3,9 @@ use Prim.Native.Nat.{ℕ}
 use mathlib.Core.Path.{_≡_, sym, ap, _∙_}
 use mathlib.Core.List.{List}
 use Rattle.model.specs.World.{World}
-use Rattle.model.specs.Says.{Said, says, buildOf, transmissionOf}
+use Rattle.model.specs.Says.{Said, says}
+use Rattle.model.specs.Fresh.{buildOf}
+use Rattle.model.specs.Parts.{transmissionOf}
 use Rattle.model.specs.declared.StunAgentBuilder.{StunAgentBuilder}
 use Rattle.model.specs.declared.Built.{Built}
 use Rattle.model.specs.declared.Call.{Call}

@@ -30,7 +30,8 @@ use Rattle.model.specs.World.{World, StateFormed}
 use Rattle.model.specs.Calls.{Kind}
 use Rattle.model.specs.Refusals.{refusalOf}
 use Rattle.model.specs.Effects.{Change, keeps, adds, removes, sets, steps, changed, changeOf, storedBy, markAfter, after}
-use Rattle.model.specs.Says.{saysOf, transmissionOf}
+use Rattle.model.specs.Says.{saysOf}
+use Rattle.model.specs.Parts.{transmissionOf}
 use Rattle.model.proofs.Refused.{passed-exactly, refused-same, passed-does}
 use Rattle.model.proofs.Changes.{Fits, change-fits}
 use Rattle.model.proofs.Kept.{after-formed}

@@ -16,7 +16,7 @@ use Rattle.stats.specs.declared.StunAgentStats.{StunAgentStats}
 use Rattle.requests.proofs.Formed.{formed-exactly}
 use Rattle.requests.proofs.Kept.{formed-empty}
 use Rattle.model.specs.World.{World, StateFormed, stateFormed}
-use Rattle.model.specs.Says.{fresh}
+use Rattle.model.specs.Fresh.{fresh}
 
 module _ (rows : ℕ) (w : World) where
   state-says : stateFormed rows w ≡ true → StateFormed rows w

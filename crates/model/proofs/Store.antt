@@ -41,7 +41,8 @@ use Rattle.model.specs.Calls.{submits, sends, receives, transmits, repor
 use Rattle.model.specs.Accepts.{onMessage, accepts, isResponse}
 use Rattle.model.specs.Refusals.{Refusal, BAD-MESSAGE, WRONG-CLASS, TABLE-FULL, isRequest, isSubmitted, holds, refusalOf}
 use Rattle.model.specs.Effects.{onFound, keeps, adds, newRequest, taken, answered, reported, wished, changeOf, answerOf, storedBy, after}
-use Rattle.model.specs.Says.{Said, saysOf, inUse, transmissionOf}
+use Rattle.model.specs.Says.{Said, saysOf}
+use Rattle.model.specs.Parts.{inUse, transmissionOf}
 use Rattle.model.specs.declared.Answer.the-variants as answer
 use Rattle.model.proofs.Below.{Submission, submission, byte-kept}
 use Rattle.model.proofs.Refused.{passed-exactly, refused-same, passed-does}

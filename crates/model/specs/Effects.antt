@@ -36,6 +36,7 @@ use Rattle.requests.specs.declared.Polled.the-variants.{TimedOut, Cancelled, Wa
 use Rattle.model.specs.World.{World, known}
 use Rattle.model.specs.Calls.{Passage, submits, sends, receives, Scan, transmits, reports, Wish, silence, cancel, configure, query, Meeting, ask, validate, Figure, numbers, mean, unsettled, anew, Kind, carries, scans, names, meets, counts, clockOf, onSome}
 use Rattle.model.specs.Accepts.{onMessage, isResponse, accepts, newPeer}
+use Rattle.model.specs.declared.StunAgent.{StunAgent}
 use Rattle.model.specs.declared.Answer.{Answer}
 use Rattle.model.specs.declared.Answer.the-variants as answer
 
@@ -255,16 +256,19 @@ peerCount w k m = onSome (newPeer w k m) (w .agent .peers) (λ a. w .agent .peer
 abbrev pub markAfter : World → Kind → ℕ
 markAfter w k = onSome (clockOf k) (w .agent .mark) (λ now. now)
 
+abbrev pub agentAfter : World → Kind → List ℕ → Change → StunAgent
+agentAfter w k m c = record {
+  transport = w .agent .transport;
+  stats = w .agent .stats;
+  rto = w .agent .rto;
+  mark = markAfter w k;
+  requests = countAfter c (w .agent .requests);
+  peers = peerCount w k m;
+}
+
 abbrev pub afterBy : ℕ → World → Kind → List ℕ → Change → World
 afterBy rows w k m c = record {
-  agent = record {
-    transport = w .agent .transport;
-    stats = w .agent .stats;
-    rto = w .agent .rto;
-    mark = markAfter w k;
-    requests = countAfter c (w .agent .requests);
-    peers = peerCount w k m;
-  };
+  agent = agentAfter w k m c;
   requests = changed (w .agent .transport) c (w .requests);
   store = storedBy rows (w .store) m c;
   peers = peersAfter w k m;

@@ -4,6 +4,8 @@ pub mod Accepts
 pub mod Refusals
 pub mod Effects
 pub mod Says
+pub mod Fresh
+pub mod Parts
 pub mod Runs
 pub mod Worked
 pub mod Useless

@@ -15,7 +15,8 @@ use Rattle.stats.specs.Count.{zeroed}
 use Rattle.stats.specs.declared.StunAgentStats.{StunAgentStats}
 use Rattle.stats.specs.declared.Rtt.the-variants.{Absent, Nanos}
 use Rattle.model.specs.World.{World}
-use Rattle.model.specs.Says.{fresh, transmissionOf}
+use Rattle.model.specs.Fresh.{fresh}
+use Rattle.model.specs.Parts.{transmissionOf}
 use Rattle.model.specs.Runs.{Turn, with, plain, answers, left}
 use Rattle.model.specs.declared.Call.the-variants as call
 use Rattle.model.specs.declared.Answer.{Answer}

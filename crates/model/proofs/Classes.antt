@@ -1,16 +1,18 @@
 -- The model by the class of a call: which tests each class can fail, in their order, and the effect of one that isn't refused, field by
 -- field. Who cites these need not open the model.
 --     past-submits, .., past-counts    the number that a call in a well-formed state is refused by
+--     never-state                      no call in a well-formed world is refused by 1
 --     scan-passes                      the two polls in a well-formed world are refused by their clock alone
 --     Done, done                       what a call that isn't refused answers and leaves
 --     event-on                         its event, while statistics are on
 --     change-.., answer-..             its change of the requests and its answer, by its class
 use Prim.Native.Nat.{ℕ, _^_, _≤_}
-use mathlib.Core.Path.{_≡_, refl, ap, _∙_}
-use mathlib.Core.Bool.{true, false, cond}
+use mathlib.Core.Path.{_≡_, refl, sym, ap, _∙_}
+use mathlib.Core.Bool.{true, false, cond, not}
 use mathlib.Core.List.{List}
 use mathlib.Core.Option.{Option}
-use borrow.Author.Tests.{le-ltb}
+use borrow.Author.Tests.{le-ltb, not-true}
+use Rattle.requests.proofs.Lists.{apart}
 use Rattle.address.specs.declared.Address.{Address}
 use Rattle.message.specs.Head.{key}
 use Rattle.message.specs.Attributes.{messageOf}
@@ -20,14 +22,14 @@ use Rattle.message.specs.declared.Parsed.the-variants.{Good, Bad}
 use Rattle.stats.specs.Count.{counted}
 use Rattle.requests.specs.Search.{lookup}
 use Rattle.requests.specs.Scan.{walk, pollAll}
-use Rattle.model.specs.World.{World, StateFormed}
+use Rattle.model.specs.World.{World, StateFormed, stateFormed}
 use Rattle.model.specs.Calls.{submits, sends, receives, Scan, transmits, reports, Wish, Meeting, Figure, Kind, carries, scans, names, meets, counts, onSome}
 use Rattle.model.specs.Accepts.{onMessage, newPeer}
-use Rattle.model.specs.Refusals.{badSettings, badClock, tooLong, badMessage, wrongClass, inProgress, tableFull, noRequest, peersFull, noStats, badCounts, refusalOf, refusalPast}
+use Rattle.model.specs.Refusals.{badSettings, badClock, tooLong, badMessage, wrongClass, inProgress, tableFull, noRequest, peersFull, noStats, badCounts, refusalOf, refusalPast, STATE, numberOf}
 use Rattle.model.specs.Effects.{onFound, keeps, adds, steps, changed, newRequest, answered, reported, wished, changeOf, handedOut, passageAnswer, transmitAnswer, pollAnswer, wishAnswer, meetingAnswer, figureAnswer, answerOf, eventBy, eventOf, storedBy, peersAfter, after, agentAfter}
 use Rattle.model.specs.Says.{Said, saysOf}
 use Rattle.model.specs.declared.Answer.the-variants as answer
-use Rattle.model.proofs.Refused.{past-state, passed-does}
+use Rattle.model.proofs.Refused.{refused-exactly, past-state, passed-does}
 use Rattle.model.proofs.State.{state-exactly}
 
 -- ---- refusals behind the test of the state
@@ -77,6 +79,12 @@ module _ (rows : ℕ) (w : World) (m : List ℕ) where
       ≡ cond (noStats w (counts f)) 11 (cond (badCounts w (counts f)) 12 0)
   unfolding refusalPast newPeer
   past-counts f = refl
+
+pub never-state : (rows : ℕ) (w : World) (k : Kind) (m : List ℕ) → StateFormed rows w → refusalOf rows w k m ≡ numberOf STATE → ⊥
+never-state rows w k m formed e =
+    let no : not (stateFormed rows w) ≡ true = refused-exactly rows w k m STATE .0 e .0 in
+    let z : true ≡ false = sym (state-exactly rows w .1 formed) ∙ not-true (stateFormed rows w) no in
+    apart z
 
 -- A clock from the mark to 2^60.
 pub scan-passes : (rows : ℕ) (w : World) (s : Scan) (now : ℕ) (m : List ℕ) → StateFormed rows w → w .agent .mark ≤ now → now ≤ 2 ^ 60

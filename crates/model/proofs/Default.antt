@@ -3,11 +3,12 @@
 --     build-refused, build-fresh    what `build` answers
 --     built-unset          settings left unset are the default's, and are never refused
 --     accepted-settings    an accepted request has its agent's settings
+--     unset-accepted       so one that it accepts after any calls has the default's, until it is configured
 --     last-wait-ends       such a request, all steps passed, has timed out exactly from 8,000 ms after its last send on
 --     only-wait-ends       by TCP from 39,500 ms after its only send on
 use Prim.Native.Nat.{ℕ, _+_, _≤_}
 use mathlib.Core.Path.{_≡_, ap, _∙_}
-use mathlib.Core.Bool.{true, false}
+use mathlib.Core.Bool.{Bool, true, false}
 use mathlib.Core.Logic.{_↔_}
 use mathlib.Core.List.{List}
 use lib.ListN.{length}
@@ -18,6 +19,7 @@ use Rattle.waits.specs.declared.Transport.the-variants.{Udp, Tcp}
 use Rattle.waits.specs.declared.RequestRto.{RequestRto}
 use Rattle.waits.proofs.Limits.{within-limits}
 use Rattle.waits.proofs.Doubling.{default-final, default-span-stream}
+use Rattle.stats.specs.declared.StunAgentStats.{StunAgentStats}
 use Rattle.request.specs.Times.{passedAll}
 use Rattle.request.specs.Request.{pollOf}
 use Rattle.request.specs.declared.SendTimes.the-variants.{Sent}
@@ -26,10 +28,12 @@ use Rattle.request.specs.declared.StunRequestPollRet.the-variants.{TimedOut}
 use Rattle.model.specs.World.{World}
 use Rattle.model.specs.Refusals.{SETTINGS, numberOf}
 use Rattle.model.specs.Says.{Said}
-use Rattle.model.specs.Fresh.{freshAgent, freshEvent, unset, buildOf}
+use Rattle.model.specs.Fresh.{freshAgent, freshEvent, unset, buildOf, fresh}
+use Rattle.model.specs.Runs.{Turn, left}
 use Rattle.model.specs.declared.StunAgentBuilder.{StunAgentBuilder}
 use Rattle.model.specs.declared.Built.the-variants.{Refused, Fresh}
 use Rattle.model.proofs.Below.{default-limits, timed-out-exactly, submission}
+use Rattle.model.proofs.Kept.{run-agent}
 use Rattle.model.proofs.Store.{RequestAccepted}
 
 module _ (b : StunAgentBuilder) where
@@ -52,6 +56,13 @@ pub accepted-settings : (rows : ℕ) (w : World) (to : Address) (now : ℕ) (m :
 accepted-settings rows w to now m s a =
     ap (λ (r : StunRequestState). r .rto) (a .request-is)
     ∙ submission now (a .message .«transaction_id») (a .message .integrity) (a .row) (length m) to (w .agent .rto) .rto-is
+
+-- Of an agent built with its settings left unset, after any calls.
+pub unset-accepted : (rows : ℕ) (t : Transport) (stats : Bool) (store : List ℕ) (peers : List Address) (st : StunAgentStats) (ts : List Turn) (to : Address) (now : ℕ) (m : List ℕ) (s : Said)
+    → (a : RequestAccepted rows (left rows (fresh t stats (unset t .rto) store peers st) ts) to now m s) → a .request .rto ≡ defaultRto
+unset-accepted rows t stats store peers st ts to now m s a =
+    let start = fresh t stats (unset t .rto) store peers st in
+    accepted-settings rows (left rows start ts) to now m s a ∙ run-agent rows ts start .rto
 
 -- A request with the default settings that wasn't cancelled and has no step left.
 module _ (now : ℕ) (r : StunRequestState) (first last : ℕ) (sent : r .«send_times» ≡ Sent first last) (kept : r .«recv_cancelled» ≡ false) (default : r .rto ≡ defaultRto) where

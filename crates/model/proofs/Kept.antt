@@ -1,7 +1,7 @@
 -- What every call keeps: a well-formed world stays well formed, and an agent has the transport, the settings and the statistics, on or
 -- off, that it was built with.
 --     after-formed, says-formed, call-formed, run-formed    well formed
---     says-agent                                            as it was built
+--     says-agent, run-agent                                 as it was built
 use Prim.Native.Nat.{ℕ, zero, suc}
 use mathlib.Core.Path.{_≡_, refl, ap, _∙_}
 use mathlib.Core.Bool.{false}
@@ -78,3 +78,11 @@ unfolding left
 run-formed rows [] w formed = formed
 run-formed rows (t ∷ ts) w formed =
     run-formed rows ts (says rows w (t .made) (t .bytes) .world) (call-formed rows w (t .made) (t .bytes) formed)
+
+pub run-agent : (rows : ℕ) (ts : List Turn) (w : World) → SameBuild (w .agent) (left rows w ts .agent)
+unfolding left
+run-agent rows [] w = record { transport = refl; stats = refl; rto = refl }
+run-agent rows (t ∷ ts) w =
+    let one = says-agent rows w (kindOf (t .made)) (t .bytes) in
+    let rest = run-agent rows ts (says rows w (t .made) (t .bytes) .world) in
+    record { transport = rest .transport ∙ one .transport; stats = rest .stats ∙ one .stats; rto = rest .rto ∙ one .rto }

@@ -111,7 +111,9 @@ def time(word):
         value = int(plain[1]) * UNITS[plain[2]]
     else:
         raise ValueError
-    return value.to_bytes(8, "big") if 0 <= value < 1 << 64 else int("too long")
+    if not 0 <= value < 1 << 64:
+        raise ValueError
+    return value.to_bytes(8, "big")
 
 
 def show_time(value, none=False):

@@ -13,5 +13,5 @@ mod statistics;
 pub use agent::Agent;
 pub use refusals::ROWS;
 pub use replay::{replay, replay_into, Replay, Turn};
-pub use request::{Request, Waits};
+pub use request::{Request, Standing, Waits};
 pub use statistics::Statistics;

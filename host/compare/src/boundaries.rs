@@ -23,7 +23,7 @@ pub fn met<'a>(
 }
 
 /// Every boundary of a record that can be read.
-pub const MET: [Boundary; 66] = [
+pub const MET: [Boundary; 71] = [
     ("send due exactly now", |s| s.sends(|due, now| due == now)),
     ("send due one later", |s| s.sends(|due, now| due == now + 1)),
     ("send due one earlier", |s| s.sends(|due, now| due + 1 == now)),
@@ -76,6 +76,7 @@ pub const MET: [Boundary; 66] = [
     ("R 0", |s| s.settings_have(|rto| rto.transmissions == 0)),
     ("R 1", |s| s.settings_have(|rto| rto.transmissions == 1)),
     ("R 33", |s| s.settings_have(|rto| rto.transmissions == 33)),
+    ("R 2 to 32", |s| s.settings_have(|rto| (2..33).contains(&rto.transmissions))),
     ("R 34", |s| s.settings_have(|rto| rto.transmissions == 34)),
     ("zero initial", |s| s.settings_have(|rto| rto.initial == 0 && rto.transmissions > 1)),
     ("zero maximum", |s| s.settings_have(|rto| rto.max == 0 && rto.transmissions > 1)),
@@ -85,6 +86,8 @@ pub const MET: [Boundary; 66] = [
     ("duration of 2^61 + 1", |s| s.settings_have(|rto| [rto.initial, rto.max, rto.final_wait].contains(&(NO_MAXIMUM + 1)))),
     ("settings in the middle", |s| s.resettled() && *s.answer == Answer::Ok),
     ("settings refused in the middle", |s| s.resettled() && *s.answer == Answer::Refused(2)),
+    ("first settings refused", |s| s.agent.is_none() && *s.answer == Answer::Refused(2)),
+    ("first record of another kind", |s| *s.answer == Answer::Bad),
     ("32 outstanding", |s| s.requests().len() == 32),
     ("7 with a full table", |s| *s.answer == Answer::Refused(7) && s.requests().len() == 32),
     ("64 peers", |s| s.peers() == 64),
@@ -93,8 +96,12 @@ pub const MET: [Boundary; 66] = [
     ("answer refused by a full list", |s| *s.answer == Answer::Refused(10) && s.named().is_some()),
     ("clock 2^60", |s| s.record.clock() == Some(LAST_CLOCK)),
     ("clock 2^60 + 1", |s| s.record.clock() == Some(LAST_CLOCK + 1)),
-    ("clock one below the mark", |s| s.agent.zip(s.record.clock()).is_some_and(|(agent, clock)| clock + 1 == agent.mark)),
-    ("clock at the mark after an unaccepted answer", |s| s.agent.is_some() && *s.answer == Answer::No && s.record.clock().is_some()),
+    ("clock one below the mark", |s| s.agent.zip(s.record.clock()).is_some_and(|(agent, clock)| clock.checked_add(1) == Some(agent.mark))),
+    ("clock moved by an unaccepted answer", |s| {
+        *s.answer == Answer::No && s.agent.zip(s.record.clock()).is_some_and(|(agent, clock)| clock > agent.mark)
+    }),
+    ("empty message", |s| s.record.message().is_some_and(<[u8]>::is_empty)),
+    ("body of 4,096 bytes", |s| s.record.message().is_some() && s.record.body().len() == BODY_LIMIT),
     ("request of 20 bytes", |s| s.request_of(20)),
     ("request of 1,024 bytes", |s| s.request_of(1024)),
     ("request of 1,028 bytes", |s| s.request_of(1028)),
@@ -110,7 +117,7 @@ pub const MET: [Boundary; 66] = [
 ];
 
 /// Every way for bytes to be no record.
-pub const BROKEN: [&str; 8] = [
+pub const BROKEN: [&str; 7] = [
     "broken: head cut short",
     "broken: another mark",
     "broken: body above 4,096 bytes",
@@ -118,10 +125,9 @@ pub const BROKEN: [&str; 8] = [
     "broken: unknown kind",
     "broken: body empty",
     "broken: body of another length, code or filler",
-    "first record of another kind",
 ];
 
-/// The way in which these bytes are no record, or no first record.
+/// The way in which these bytes are no record.
 pub fn broken(bytes: &[u8]) -> &'static str {
     let length = bytes.get(3..5).map_or(0, |two| usize::from(two[0]) << 8 | usize::from(two[1]));
     match bytes {

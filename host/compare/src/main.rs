@@ -23,7 +23,6 @@ fn main() -> ExitCode {
             return ExitCode::from(2);
         }
     };
-    std::panic::set_hook(Box::new(|_| {})); // a panic of the Rust agent is caught and reported by its record
     let (tally, outcome) = options.run.go();
     println!("{tally}");
     println!("{}", coverage(&options.run));

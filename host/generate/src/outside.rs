@@ -157,8 +157,9 @@ fn damaged(seed: u64) -> Vec<u8> {
     let mut bytes = inside::trace(seed);
     let mut random = Random::new(!seed);
     for _ in 0..1 + random.below(3) {
-        let at = random.index(bytes.len());
+        let at = random.index(bytes.len().max(1));
         match random.below(5) {
+            _ if bytes.is_empty() => {}
             0 => bytes[at] ^= 1 << random.below(8),
             1 => bytes[at] = random.byte(),
             2 => drop(bytes.remove(at)),

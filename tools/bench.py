@@ -1,0 +1,31 @@
+"""What the commands of the test bench share: where the host's programs stand and how they are built."""
+import os
+import pathlib
+import shutil
+import subprocess
+import sys
+
+ROOT = pathlib.Path(__file__).resolve().parent.parent
+HOST = ROOT / "host"
+RECORDED = ROOT / "traces" / "recorded"
+
+
+def cargo_build(*arguments, folder=HOST, **environment):
+    """Builds in a cargo workspace, offline; ends the command where that fails."""
+    if not shutil.which("cargo"):
+        sys.exit("cargo isn't here: the host's programs can't be built")
+    command = ["cargo", "build", "--offline", "--quiet", *arguments]
+    if subprocess.run(command, cwd=folder, env={**os.environ, **environment}).returncode:
+        sys.exit(f"{' '.join(command)} failed")
+
+
+def host_program(name):
+    """The path of one of the host's programs, built afresh where something changed."""
+    cargo_build("--release", "--package", name)
+    return HOST / "target" / "release" / name
+
+
+def run_program(words, trace):
+    """The lines of a program that takes a trace on standard input; None where it fails."""
+    done = subprocess.run(words, input=trace, stdout=subprocess.PIPE)
+    return done.stdout.decode(errors="replace") if done.returncode == 0 else None

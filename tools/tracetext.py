@@ -120,6 +120,9 @@ def show_time(value, none=False):
     """The shortest way to write a time; 2^61 is `none` where a duration stands."""
     if none and value == NONE:
         return "none"
+    for power in (60, 61, 64):
+        if abs(value - 2 ** power) <= 1:
+            return f"2^{power}" + (f"{value - 2 ** power:+d}" if value != 2 ** power else "")
     for unit in ("s", "ms"):
         if value and value % UNITS[unit] == 0:
             return f"{value // UNITS[unit]}{unit}"

@@ -371,7 +371,7 @@ def refusal_cases():
         case("refusals", f"3-{name}", f"{name} with a clock below the mark, above 2^60 and far above is refused by 3; on the mark it isn't.",
              settings(), ask(5), call(4), call("2^60+1"), call("2^64-1"), call(5))
     case("refusals", "3-mark-stays", "A refused call leaves the mark: the highest clock is that of an unrefused call.",
-         settings(), ask(5), ask(9), ask("9", 1), "cancel 2", poll("2^60+1"), poll(5))
+         settings(), ask(5), ask(9), "cancel 2", poll("2^60+1"), poll(5))
     case("refusals", "3-mark-moves", "Every unrefused call with a clock moves the mark.", settings(), ask(1), poll(0), step(2), poll(1), poll(3), step(2), answer(4), poll(3), answer(6), poll(5))
     case("refusals", "3-fresh-mark", "A fresh agent's mark is 0.", settings(), poll(100), settings(), poll(0))
     for length, what in ((1028, "a good message of 1,028 bytes"), (1025, "1,025 bytes that are no message")):

@@ -15,7 +15,10 @@ def cargo_build(*arguments, folder=HOST, **environment):
     if not shutil.which("cargo"):
         sys.exit("cargo isn't here: the host's programs can't be built")
     command = ["cargo", "build", "--offline", "--quiet", *arguments]
-    if subprocess.run(command, cwd=folder, env={**os.environ, **environment}).returncode:
+    everything = {**os.environ, **environment}
+    if "STUN_PROTO_SRC" in everything:  # as the caller means it, not as seen from a package's folder
+        everything["STUN_PROTO_SRC"] = os.path.abspath(everything["STUN_PROTO_SRC"])
+    if subprocess.run(command, cwd=folder, env=everything).returncode:
         sys.exit(f"{' '.join(command)} failed")
 
 

@@ -185,7 +185,8 @@ fn framing(seed: u64) -> Vec<u8> {
         2 => body.truncate(body.len().saturating_sub(1)),
         3 => body.push(0),
         4 if !body.is_empty() => {
-            let at = script.random.index(body.len().min(40));
+            let codes = script.random.pick(&[2, 40]);
+            let at = script.random.index(body.len().min(codes));
             body[at] = script.random.pick(&[0, 1, 2, 4, 5, 6, 255]);
         }
         _ => {}

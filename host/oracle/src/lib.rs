@@ -98,7 +98,7 @@ impl<'a> Oracle<'a> {
         let agent = self.rust.as_mut().expect("settings inside the domain came first");
         catch_unwind(AssertUnwindSafe(|| agent.call(call))).map_err(|panic| {
             let text = panic.downcast_ref::<String>().map(String::as_str);
-            text.or(panic.downcast_ref::<&str>().copied()).unwrap_or("a panic without text").to_owned()
+            text.or(panic.downcast_ref::<&str>().copied()).unwrap_or("a panic without text").replace('\n', " ")
         })
     }
 }

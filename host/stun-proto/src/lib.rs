@@ -8,5 +8,6 @@
 extern crate alloc;
 
 pub use sans_io_time::Instant;
+pub use stun_types as types;
 
 include!(concat!(env!("OUT_DIR"), "/modules.rs"));

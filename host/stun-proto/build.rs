@@ -15,9 +15,7 @@ fn sources() -> PathBuf {
 fn find(folder: &Path, name: &str) -> PathBuf {
     let inner = folder.join("src").join(name);
     let file = if inner.is_file() { inner } else { folder.join(name) };
-    let file = file
-        .canonicalize()
-        .unwrap_or_else(|error| panic!("{}: {error} (see STUN_PROTO_SRC)", file.display()));
+    let file = file.canonicalize().unwrap_or_else(|error| panic!("{}: {error} (see STUN_PROTO_SRC)", file.display()));
     println!("cargo:rerun-if-changed={}", file.display());
     file
 }

@@ -1,7 +1,9 @@
 //! The boundaries that a run should meet: names, and how a call is seen to be on one.
 
 use reading::{Agent, Request, Standing, Waits};
-use records::{Address, Answer, Class, Head, Id, Record, BODY_LIMIT, FINGERPRINT, INTEGRITY, LAST_CLOCK, MARK, NO_MAXIMUM};
+use records::{
+    Address, Answer, Class, Head, Id, Record, BODY_LIMIT, FINGERPRINT, INTEGRITY, LAST_CLOCK, MARK, NO_MAXIMUM,
+};
 
 /// A call, its answer, and the second reading's agent before it.
 pub struct Sight<'a> {
@@ -46,13 +48,16 @@ pub const MET: [Boundary; 71] = [
     ("cancelled past its end", |s| s.cancelled_where(|r, now| r.end().is_some_and(|end| end <= now))),
     ("cancelled with steps left", |s| s.cancelled_where(|r, _| r.due().is_some())),
     ("cancelled request passed by when due", |s| {
-        s.at_transmit().is_some_and(|now| s.requests().iter().any(|r| r.cancelled && r.due().is_some_and(|due| due <= now)))
+        s.at_transmit()
+            .is_some_and(|now| s.requests().iter().any(|r| r.cancelled && r.due().is_some_and(|due| due <= now)))
     }),
     ("overdue: wait until now", |s| s.waits_until(|wait, now, empty| wait == now && !empty)),
     ("wait cut at an hour", |s| s.waits_until(|wait, now, empty| wait == now + 3_600_000_000_000 && !empty)),
     ("poll of an empty table", |s| s.waits_until(|_, _, empty| empty)),
     ("two ready at one poll", |s| s.ready() > 1),
-    ("timed out behind one that waits", |s| s.reported().is_some_and(|r| s.requests().iter().any(|other| other.id < r.id))),
+    ("timed out behind one that waits", |s| {
+        s.reported().is_some_and(|r| s.requests().iter().any(|other| other.id < r.id))
+    }),
     ("answer past the end", |s| s.answers(|r, now| r.end().zip(now).is_some_and(|(end, now)| end <= now))),
     ("answer before the first retransmission", |s| s.answers(|r, _| r.steps == 0)),
     ("answer after a step", |s| s.answers(|r, now| r.steps > 0 && now.is_some())),
@@ -72,7 +77,9 @@ pub const MET: [Boundary; 71] = [
     }),
     ("configured after a cancel", |s| s.configured(|r, _| r.silent)),
     ("configured by TCP", |s| s.configured(|_, _| s.agent.is_some_and(|agent| agent.tcp))),
-    ("query of a cancelled request", |s| matches!(s.record, Record::Query(_)) && s.named().is_some_and(|r| r.cancelled)),
+    ("query of a cancelled request", |s| {
+        matches!(s.record, Record::Query(_)) && s.named().is_some_and(|r| r.cancelled)
+    }),
     ("R 0", |s| s.settings_have(|rto| rto.transmissions == 0)),
     ("R 1", |s| s.settings_have(|rto| rto.transmissions == 1)),
     ("R 33", |s| s.settings_have(|rto| rto.transmissions == 33)),
@@ -81,9 +88,13 @@ pub const MET: [Boundary; 71] = [
     ("zero initial", |s| s.settings_have(|rto| rto.initial == 0 && rto.transmissions > 1)),
     ("zero maximum", |s| s.settings_have(|rto| rto.max == 0 && rto.transmissions > 1)),
     ("zero final wait", |s| s.settings_have(|rto| rto.final_wait == 0)),
-    ("maximum below a doubled wait", |s| s.settings_have(|rto| rto.transmissions > 2 && rto.initial < rto.max && rto.max < rto.initial.saturating_mul(2))),
+    ("maximum below a doubled wait", |s| {
+        s.settings_have(|rto| rto.transmissions > 2 && rto.initial < rto.max && rto.max < rto.initial.saturating_mul(2))
+    }),
     ("duration of 2^61", |s| s.settings_have(|rto| rto.final_wait == NO_MAXIMUM)),
-    ("duration of 2^61 + 1", |s| s.settings_have(|rto| [rto.initial, rto.max, rto.final_wait].contains(&(NO_MAXIMUM + 1)))),
+    ("duration of 2^61 + 1", |s| {
+        s.settings_have(|rto| [rto.initial, rto.max, rto.final_wait].contains(&(NO_MAXIMUM + 1)))
+    }),
     ("settings in the middle", |s| s.resettled() && *s.answer == Answer::Ok),
     ("settings refused in the middle", |s| s.resettled() && *s.answer == Answer::Refused(2)),
     ("first settings refused", |s| s.agent.is_none() && *s.answer == Answer::Refused(2)),
@@ -96,7 +107,9 @@ pub const MET: [Boundary; 71] = [
     ("answer refused by a full list", |s| *s.answer == Answer::Refused(10) && s.named().is_some()),
     ("clock 2^60", |s| s.record.clock() == Some(LAST_CLOCK)),
     ("clock 2^60 + 1", |s| s.record.clock() == Some(LAST_CLOCK + 1)),
-    ("clock one below the mark", |s| s.agent.zip(s.record.clock()).is_some_and(|(agent, clock)| clock.checked_add(1) == Some(agent.mark))),
+    ("clock one below the mark", |s| {
+        s.agent.zip(s.record.clock()).is_some_and(|(agent, clock)| clock.checked_add(1) == Some(agent.mark))
+    }),
     ("clock moved by an unaccepted answer", |s| {
         *s.answer == Answer::No && s.agent.zip(s.record.clock()).is_some_and(|(agent, clock)| clock > agent.mark)
     }),
@@ -105,15 +118,21 @@ pub const MET: [Boundary; 71] = [
     ("request of 20 bytes", |s| s.request_of(20)),
     ("request of 1,024 bytes", |s| s.request_of(1024)),
     ("request of 1,028 bytes", |s| s.request_of(1028)),
-    ("SHA-1 integrity with FINGERPRINT behind it", |s| s.head().is_some_and(|head| {
+    ("SHA-1 integrity with FINGERPRINT behind it", |s| {
+        s.head().is_some_and(|head| {
         matches!(head.attributes.as_slice(), [.., last, end] if last.kind == INTEGRITY && end.kind == FINGERPRINT)
-    })),
-    ("padding that isn't zero", |s| s.record.message().is_some_and(|bytes| s.head().is_some_and(|head| {
-        head.attributes.iter().any(|a| {
-            let end = a.at + 4 + a.value.len();
-            bytes[end..end.next_multiple_of(4)].iter().any(|&filler| filler != 0)
+    })
+    }),
+    ("padding that isn't zero", |s| {
+        s.record.message().is_some_and(|bytes| {
+            s.head().is_some_and(|head| {
+                head.attributes.iter().any(|a| {
+                    let end = a.at + 4 + a.value.len();
+                    bytes[end..end.next_multiple_of(4)].iter().any(|&filler| filler != 0)
+                })
+            })
         })
-    }))),
+    }),
 ];
 
 /// Every way for bytes to be no record.
@@ -198,9 +217,8 @@ impl Sight<'_> {
     }
 
     fn sends(&self, on: fn(u128, u128) -> bool) -> bool {
-        self.at_transmit().is_some_and(|now| {
-            self.requests().iter().any(|r| !r.cancelled && r.due().is_some_and(|due| on(due, now)))
-        })
+        self.at_transmit()
+            .is_some_and(|now| self.requests().iter().any(|r| !r.cancelled && r.due().is_some_and(|due| on(due, now))))
     }
 
     fn ends(&self, on: fn(u128, u128) -> bool) -> bool {

@@ -2,6 +2,7 @@
 
 mod boundaries;
 mod difference;
+mod plain;
 mod program;
 mod run;
 mod shrink;

@@ -1,15 +1,18 @@
-//! Makes a trace that shows a difference as short as it gets.
+//! Makes a trace that shows a difference as short and as plain as it gets.
 
+use crate::plain;
 use records::{message, Head, Read, Record};
 
-/// A shorter trace that still shows what `shows` looks for.
+/// A shorter and plainer trace that still shows what `shows` looks for.
 pub fn shrink(trace: &[u8], shows: &dyn Fn(&[u8]) -> bool) -> Vec<u8> {
     let mut parts = split(trace);
     loop {
-        let before = parts.concat().len();
+        let before = parts.clone();
         parts = without_parts(parts, shows);
         parts = with_bare_messages(parts, shows);
-        if parts.concat().len() == before {
+        parts = plain::with_plain_names(parts, shows);
+        parts = plain::with_smaller_numbers(parts, shows);
+        if parts == before {
             return parts.concat();
         }
     }
@@ -80,6 +83,7 @@ fn bare(part: &[u8]) -> Option<Vec<u8>> {
 #[cfg(test)]
 mod tests {
     use super::*;
+    use records::{Address, Class};
 
     #[test]
     fn what_is_left_is_what_shows() {
@@ -87,7 +91,22 @@ mod tests {
         let polls = |bytes: &[u8]| split(bytes).iter().filter(|part| part[2] == 7).count();
         assert!(polls(&trace) >= 2);
         let least = shrink(&trace, &|bytes| polls(bytes) >= 2);
-        assert_eq!((split(&least).len(), polls(&least)), (2, 2));
+        assert_eq!(least, [Record::Poll(0).encode(), Record::Poll(0).encode()].concat());
+    }
+
+    #[test]
+    fn names_become_plain_and_numbers_as_small_as_they_may() {
+        let (to, id) = (Address::V6 { address: [7; 16], port: 9, flow: 8, scope: 7 }, [0xEE; 12]);
+        let request = Record::Request { clock: 1 << 59, to, message: message(Class::Request, 1, &id, &[]) };
+        let trace = [request.encode(), Record::Cancel(id).encode()].concat();
+        let late = |bytes: &[u8]| {
+            split(bytes).len() == 2
+                && matches!(Record::read(bytes), Read::Record(first, _) if first.clock() > Some(777))
+        };
+        let plain = [0, 0, 0, 0, 0, 0, 0, 0, 0, 0, 0, 1];
+        let to = Address::V4 { address: [192, 0, 2, 1], port: 3478 };
+        let request = Record::Request { clock: 778, to, message: message(Class::Request, 1, &plain, &[]) };
+        assert_eq!(shrink(&trace, &late), [request.encode(), Record::Cancel(plain).encode()].concat());
     }
 
     #[test]

@@ -10,9 +10,28 @@ use std::fmt;
 /// Answers and refusals that a complete run has seen. Number 1 needs a broken state, which no trace
 /// makes, and 12 the query for the outstanding count, which no record asks for.
 const ANSWERS: [&str; 22] = [
-    "bad", "cancelled", "no", "none", "ok", "refused 10", "refused 11", "refused 2", "refused 3", "refused 4",
-    "refused 5", "refused 6", "refused 7", "refused 8", "refused 9", "send", "sha1", "sha256", "stats", "timeout",
-    "wait", "yes",
+    "bad",
+    "cancelled",
+    "no",
+    "none",
+    "ok",
+    "refused 10",
+    "refused 11",
+    "refused 2",
+    "refused 3",
+    "refused 4",
+    "refused 5",
+    "refused 6",
+    "refused 7",
+    "refused 8",
+    "refused 9",
+    "send",
+    "sha1",
+    "sha256",
+    "stats",
+    "timeout",
+    "wait",
+    "yes",
 ];
 
 /// What was met, and how often.
@@ -56,7 +75,8 @@ impl Tally {
 
     /// Answers, kinds and boundaries that were never met.
     pub fn unmet(&self) -> Vec<String> {
-        let answers = ANSWERS.iter().filter(|name| !self.answers.contains_key(**name)).map(|name| format!("answer {name}"));
+        let answers =
+            ANSWERS.iter().filter(|name| !self.answers.contains_key(**name)).map(|name| format!("answer {name}"));
         let kinds = (1..=15).filter(|kind| !self.kinds.contains_key(kind)).map(|kind| format!("kind {kind}"));
         let names = MET.iter().map(|(name, _)| *name).chain(BROKEN);
         let boundaries = names.filter(|name| !self.boundaries.contains_key(name)).map(str::to_owned);
@@ -70,7 +90,11 @@ impl fmt::Display for Tally {
         writeln!(f, "traces: {total} ({})", listed(&self.traces))?;
         writeln!(f, "traces decided by the Rust in every line: {}", self.all_rust)?;
         let records = self.by_rust + self.by_reading;
-        writeln!(f, "records: {records} (lines by the Rust {}, by the second reading alone {})", self.by_rust, self.by_reading)?;
+        writeln!(
+            f,
+            "records: {records} (lines by the Rust {}, by the second reading alone {})",
+            self.by_rust, self.by_reading
+        )?;
         writeln!(f, "kinds: {}", listed(&self.kinds))?;
         writeln!(f, "answers: {}", listed(&self.answers))?;
         writeln!(f, "boundaries:")?;

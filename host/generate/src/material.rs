@@ -1,13 +1,14 @@
 //! What calls are made of: identifiers and addresses that differ little, settings, messages of every shape.
 
 use crate::random::Random;
-use records::{attribute, fingerprint, message, Address, Class, Id, Rto, FINGERPRINT, INTEGRITY, INTEGRITY_SHA256, NO_MAXIMUM};
+use records::{
+    attribute, fingerprint, message, Address, Class, Id, Rto, FINGERPRINT, INTEGRITY, INTEGRITY_SHA256, NO_MAXIMUM,
+};
 
 const MILLISECOND: u64 = 1_000_000;
 
 /// Attribute types that are neither integrity nor FINGERPRINT; some differ from those in one byte.
-const PLAIN_TYPES: [u16; 10] =
-    [0x0001, 0x0006, 0x0009, 0x001B, 0x0020, 0x0800, 0x1C00, 0x8022, 0x8029, 0xFFFF];
+const PLAIN_TYPES: [u16; 10] = [0x0001, 0x0006, 0x0009, 0x001B, 0x0020, 0x0800, 0x1C00, 0x8022, 0x8029, 0xFFFF];
 
 /// Identifiers that differ from the first in one byte, which may be any.
 pub fn identifiers(random: &mut Random, count: usize) -> Vec<Id> {
@@ -73,12 +74,23 @@ pub fn settings(random: &mut Random, tcp: bool) -> Rto {
     let some = random.below(20);
     let any = random.below(34) as u32;
     let transmissions = random.pick(&[0, 1, 2, 2, 3, 3, 4, 7, 33, any]);
-    let final_wait = random.pick(&[0, 1, 3, some, 8 * MILLISECOND, 8000 * MILLISECOND, 3_600_000 * MILLISECOND, NO_MAXIMUM]);
+    let final_wait =
+        random.pick(&[0, 1, 3, some, 8 * MILLISECOND, 8000 * MILLISECOND, 3_600_000 * MILLISECOND, NO_MAXIMUM]);
     let taken = if tcp { final_wait } else { 0 };
     let most = (NO_MAXIMUM - taken) >> (transmissions.max(1) - 1);
     let wished = random.pick(&[0, 1, 2, 3, some, 1000, 500 * MILLISECOND, 3000 * MILLISECOND, NO_MAXIMUM]);
     let initial = wished.min(most);
-    let max = random.pick(&[0, 1, some, initial, initial.saturating_mul(3).min(NO_MAXIMUM), 3000 * MILLISECOND, NO_MAXIMUM, NO_MAXIMUM, NO_MAXIMUM - 1]);
+    let max = random.pick(&[
+        0,
+        1,
+        some,
+        initial,
+        initial.saturating_mul(3).min(NO_MAXIMUM),
+        3000 * MILLISECOND,
+        NO_MAXIMUM,
+        NO_MAXIMUM,
+        NO_MAXIMUM - 1,
+    ]);
     Rto { initial, max, transmissions, final_wait }
 }
 

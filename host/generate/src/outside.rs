@@ -8,9 +8,8 @@ use records::{message, Address, Answer, Class, Id, Record, Rto, BODY_LIMIT, LAST
 
 /// The trace of this seed.
 pub fn trace(seed: u64) -> Vec<u8> {
-    let recipes: [fn(u64) -> Vec<u8>; 10] = [
-        refusals, refusals, full_table, full_peers, damaged, framing, noise, long_durations, crowded, first_records,
-    ];
+    let recipes: [fn(u64) -> Vec<u8>; 10] =
+        [refusals, refusals, full_table, full_peers, damaged, framing, noise, long_durations, crowded, first_records];
     recipes[(seed % recipes.len() as u64) as usize](seed)
 }
 
@@ -54,12 +53,17 @@ fn any_clock(script: &mut Script) -> u64 {
     let far = LAST_CLOCK + script.random.below(3) - 1;
     let most = script.random.pick(&[far, 1 << 61, u64::MAX]);
     let choices = [mark, mark, mark, mark + 1, mark.saturating_sub(1), 0];
-    if script.random.chance(10) { most } else { script.random.pick(&choices) }
+    if script.random.chance(10) {
+        most
+    } else {
+        script.random.pick(&choices)
+    }
 }
 
 /// Settings on either side of each limit.
 fn any_settings(random: &mut Random) -> Rto {
-    let mut duration = || random.pick(&[0, 1, 500, 500, 1_000_000, NO_MAXIMUM - 1, NO_MAXIMUM, NO_MAXIMUM + 1, u64::MAX]);
+    let mut duration =
+        || random.pick(&[0, 1, 500, 500, 1_000_000, NO_MAXIMUM - 1, NO_MAXIMUM, NO_MAXIMUM + 1, u64::MAX]);
     let (initial, max, final_wait) = (duration(), duration(), duration());
     Rto { initial, max, transmissions: random.pick(&[0, 1, 2, 7, 32, 33, 34, u32::MAX]), final_wait }
 }
@@ -287,11 +291,8 @@ fn crowded(seed: u64) -> Vec<u8> {
 fn first_records(seed: u64) -> Vec<u8> {
     let mut script = Script::new(seed, 3, 4);
     let rto = any_settings(&mut script.random);
-    let first = if script.random.chance(80) {
-        Record::Settings { tcp: false, statistics: true, rto }
-    } else {
-        Record::Poll(0)
-    };
+    let first =
+        if script.random.chance(80) { Record::Settings { tcp: false, statistics: true, rto } } else { Record::Poll(0) };
     let id = script.ids[0];
     if script.play(first) == Answer::Ok {
         ask(&mut script, &id);

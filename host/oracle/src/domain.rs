@@ -32,8 +32,7 @@ impl Domain {
 /// No product, looked at before the cap by the maximum, and no sum by TCP above 2^61.
 fn durations_fit(tcp: bool, rto: &Rto) -> bool {
     let limit = u128::from(NO_MAXIMUM);
-    let products: Vec<u128> =
-        (0..rto.transmissions.max(1) - 1).map(|index| u128::from(rto.initial) << index).collect();
+    let products: Vec<u128> = (0..rto.transmissions.max(1) - 1).map(|index| u128::from(rto.initial) << index).collect();
     let sum: u128 = products.iter().map(|&product| product.min(rto.max.into())).sum();
     products.iter().all(|&product| product <= limit) && (!tcp || sum + u128::from(rto.final_wait) <= limit)
 }
@@ -47,9 +46,7 @@ fn message_fits(message: &[u8]) -> bool {
         [] => true,
         [only] => only.kind != FINGERPRINT || only.value == fingerprint(&message[..only.at]),
         [integrity, last] => {
-            integrity.kind != FINGERPRINT
-                && last.kind == FINGERPRINT
-                && last.value == fingerprint(&message[..last.at])
+            integrity.kind != FINGERPRINT && last.kind == FINGERPRINT && last.value == fingerprint(&message[..last.at])
         }
         _ => false,
     }
@@ -84,8 +81,8 @@ mod tests {
     fn one_integrity_and_a_right_fingerprint_are_inside() {
         let (name, sha1, sha256) =
             (attribute(6, b"name", 0), attribute(INTEGRITY, &[1; 20], 0), attribute(INTEGRITY_SHA256, &[2; 32], 0));
-        assert!(with(&[]) && with(&[name.clone()]) && with(&[name.clone(), sha1.clone()]));
-        assert!(marked(&[]) && marked(&[name.clone(), sha256.clone()]) && marked(&[sha1.clone()]));
+        assert!(with(&[]) && with(std::slice::from_ref(&name)) && with(&[name.clone(), sha1.clone()]));
+        assert!(marked(&[]) && marked(&[name.clone(), sha256.clone()]) && marked(std::slice::from_ref(&sha1)));
         assert!(!with(&[sha1.clone(), sha256.clone()]) && !with(&[sha1.clone(), name.clone()]));
         assert!(!with(&[sha1.clone(), sha1]) && !marked(&[sha256, name]));
         assert!(!with(&[attribute(FINGERPRINT, &[0; 4], 0)]), "a wrong fingerprint");

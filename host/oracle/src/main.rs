@@ -27,7 +27,8 @@ fn main() -> std::io::Result<ExitCode> {
         }
     };
     let plain = records::lines(judged.iter().map(|line| &line.answer));
-    let marked: String = plain.split_inclusive('\n').zip(&judged).map(|(line, judged)| mark(line, judged.judge)).collect();
+    let marked: String =
+        plain.split_inclusive('\n').zip(&judged).map(|(line, judged)| mark(line, judged.judge)).collect();
     std::io::stdout().write_all(if judges { marked.as_bytes() } else { plain.as_bytes() })?;
     Ok(ExitCode::SUCCESS)
 }

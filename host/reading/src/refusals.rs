@@ -19,10 +19,13 @@ pub fn settings_refused(rto: &Rto) -> bool {
     rto.transmissions > 33 || [rto.initial, rto.max, rto.final_wait].iter().any(|&duration| duration > NO_MAXIMUM)
 }
 
+/// Whether a number applies to a call.
+type Test = fn(&Agent, &Record) -> bool;
+
 impl Agent {
     /// The number that this call is refused by.
     pub fn refusal(&self, record: &Record) -> Option<u8> {
-        let tests: [(u8, fn(&Agent, &Record) -> bool); 10] = [
+        let tests: [(u8, Test); 10] = [
             (2, Agent::beyond_settings),
             (3, Agent::beyond_clock),
             (4, Agent::too_long),

@@ -17,9 +17,7 @@ impl Address {
     pub fn decode(bytes: &[u8; Address::LENGTH]) -> Option<Address> {
         let port = u16::from_be_bytes([bytes[1], bytes[2]]);
         match bytes[0] {
-            4 if bytes[7..].iter().all(|&filler| filler == 0) => {
-                Some(Address::V4 { address: part(bytes, 3), port })
-            }
+            4 if bytes[7..].iter().all(|&filler| filler == 0) => Some(Address::V4 { address: part(bytes, 3), port }),
             6 => Some(Address::V6 {
                 address: part(bytes, 3),
                 port,

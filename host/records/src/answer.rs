@@ -13,7 +13,10 @@ pub enum Answer {
     Yes,
     No,
     Nothing,
-    Send { id: Id, length: usize },
+    Send {
+        id: Id,
+        length: usize,
+    },
     Wait(u64),
     TimedOut(Id),
     Cancelled(Id),

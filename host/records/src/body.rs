@@ -21,16 +21,34 @@ pub struct Rto {
 /// One call of the replay.
 #[derive(Debug, Clone, PartialEq, Eq)]
 pub enum Record {
-    Settings { tcp: bool, statistics: bool, rto: Rto },
-    Request { clock: u64, to: Address, message: Vec<u8> },
-    Send { to: Address, message: Vec<u8> },
+    Settings {
+        tcp: bool,
+        statistics: bool,
+        rto: Rto,
+    },
+    Request {
+        clock: u64,
+        to: Address,
+        message: Vec<u8>,
+    },
+    Send {
+        to: Address,
+        message: Vec<u8>,
+    },
     /// Kind 4 with a clock, kind 5 without.
-    Received { clock: Option<u64>, from: Address, message: Vec<u8> },
+    Received {
+        clock: Option<u64>,
+        from: Address,
+        message: Vec<u8>,
+    },
     PollTransmit(u64),
     Poll(u64),
     CancelRetransmissions(Id),
     Cancel(Id),
-    Configure { id: Id, rto: Rto },
+    Configure {
+        id: Id,
+        rto: Rto,
+    },
     IsPeerValid(Address),
     ValidatePeer(Address),
     Statistics,

@@ -9,8 +9,7 @@ pub use address::Address;
 pub use answer::{lines, Answer};
 pub use body::{Read, Record, Rto, BODY_LIMIT, MARK};
 pub use message::{
-    attribute, fingerprint, message, Attribute, Class, Head, COOKIE, FINGERPRINT, INTEGRITY,
-    INTEGRITY_SHA256,
+    attribute, fingerprint, message, Attribute, Class, Head, COOKIE, FINGERPRINT, INTEGRITY, INTEGRITY_SHA256,
 };
 
 /// The identifier of a request.

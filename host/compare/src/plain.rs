@@ -25,25 +25,29 @@ pub fn with_plain_names(parts: Vec<Vec<u8>>, shows: &dyn Fn(&[u8]) -> bool) -> V
     })
 }
 
-/// Every clock and duration as small as it may be with the difference still there.
+/// Every clock and duration as small as it may be with the difference still there; equal ones stay equal.
 pub fn with_smaller_numbers(mut parts: Vec<Vec<u8>>, shows: &dyn Fn(&[u8]) -> bool) -> Vec<Vec<u8>> {
-    for at in 0..parts.len() {
-        let Read::Record(mut record, _) = Record::read(&parts[at]) else { continue };
-        for place in 0..numbers(&mut record).len() {
-            let mut step = *numbers(&mut record)[place];
-            while step > 0 {
-                let was = *numbers(&mut record)[place];
-                *numbers(&mut record)[place] = was.saturating_sub(step);
-                let kept = std::mem::replace(&mut parts[at], record.encode());
-                if was < step || !shows(&parts.concat()) {
-                    *numbers(&mut record)[place] = was;
-                    parts[at] = kept;
-                    step /= 2;
-                }
+    let mut values: Vec<u64> = Vec::new();
+    for mut record in records(&parts) {
+        values.extend(numbers(&mut record).into_iter().map(|number| *number));
+    }
+    values.sort();
+    values.dedup();
+    for mut value in values {
+        let steps = std::iter::successors(Some(value), |step| Some(step / 2)).take_while(|&step| step > 0);
+        for step in steps {
+            let Some(smaller) = value.checked_sub(step) else { continue };
+            let tried = changed(&parts, |record| replace(record, value, smaller));
+            if shows(&tried.concat()) {
+                (parts, value) = (tried, smaller);
             }
         }
     }
     parts
+}
+
+fn replace(record: &mut Record, old: u64, new: u64) {
+    numbers(record).into_iter().filter(|number| **number == old).for_each(|number| *number = new);
 }
 
 fn records(parts: &[Vec<u8>]) -> impl Iterator<Item = Record> + '_ {
@@ -53,18 +57,21 @@ fn records(parts: &[Vec<u8>]) -> impl Iterator<Item = Record> + '_ {
     })
 }
 
-/// The parts with a change in every record, if the difference stays; else as they were.
+/// The parts with a change in every record.
+fn changed(parts: &[Vec<u8>], change: impl Fn(&mut Record)) -> Vec<Vec<u8>> {
+    let one = |part: &Vec<u8>| match Record::read(part) {
+        Read::Record(mut record, _) => {
+            change(&mut record);
+            record.encode()
+        }
+        _ => part.clone(),
+    };
+    parts.iter().map(one).collect()
+}
+
+/// The changed parts if the difference stays; else the parts as they were.
 fn kept_if_shown(parts: Vec<Vec<u8>>, shows: &dyn Fn(&[u8]) -> bool, change: impl Fn(&mut Record)) -> Vec<Vec<u8>> {
-    let changed: Vec<Vec<u8>> = parts
-        .iter()
-        .map(|part| match Record::read(part) {
-            Read::Record(mut record, _) => {
-                change(&mut record);
-                record.encode()
-            }
-            _ => part.clone(),
-        })
-        .collect();
+    let changed = changed(&parts, change);
     if shows(&changed.concat()) {
         changed
     } else {

@@ -3,19 +3,23 @@
 use crate::plain;
 use records::{message, Head, Read, Record};
 
+/// Numbers that hang together can creep down by one a round: it isn't worth more rounds than this.
+const ROUNDS: usize = 8;
+
 /// A shorter and plainer trace that still shows what `shows` looks for.
 pub fn shrink(trace: &[u8], shows: &dyn Fn(&[u8]) -> bool) -> Vec<u8> {
     let mut parts = split(trace);
-    loop {
+    for _ in 0..ROUNDS {
         let before = parts.clone();
         parts = without_parts(parts, shows);
         parts = with_bare_messages(parts, shows);
         parts = plain::with_plain_names(parts, shows);
         parts = plain::with_smaller_numbers(parts, shows);
         if parts == before {
-            return parts.concat();
+            break;
         }
     }
+    parts.concat()
 }
 
 /// The bytes of each record; what is no record is one last part.

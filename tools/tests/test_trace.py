@@ -18,7 +18,7 @@ ID = "00112233445566778899aabb"
 MESSAGE = f"0001 0000 2112a442 {ID}"
 # One record of each kind, laid out by hand from document 01.
 BY_HAND = [
-    (f"settings tcp stats=on initial=500ms max=none R=7 final=8s", f"01 001e 01 01 {WAITS}"),
+    ("settings tcp stats=on initial=500ms max=none R=7 final=8s", f"01 001e 01 01 {WAITS}"),
     (f"send_request 7 192.0.2.1:3478 request {ID}", f"02 0037 0000000000000007 {ADDRESS} {MESSAGE}"),
     (f"send 192.0.2.1:3478 request {ID}", f"03 002f {ADDRESS} {MESSAGE}"),
     (f"received 2^60 192.0.2.1:3478 request {ID}", f"04 0037 1000000000000000 {ADDRESS} {MESSAGE}"),
@@ -28,7 +28,8 @@ BY_HAND = [
     (f"cancel_retransmissions {ID}", f"08 000c {ID}"),
     (f"cancel {ID}", f"09 000c {ID}"),
     (f"configure {ID} initial=500ms max=none R=7 final=8s", f"0a 0028 {ID} {WAITS}"),
-    ("is_peer [2001:db8::1]:3478 flow=258 scope=3", "0b 001b 06 0d96 20010db8000000000000000000000001 00000102 00000003"),
+    ("is_peer [2001:db8::1]:3478 flow=258 scope=3",
+     "0b 001b 06 0d96 20010db8000000000000000000000001 00000102 00000003"),
     ("validate_peer 192.0.2.1:3478", f"0c 001b {ADDRESS}"),
     ("stats", "0d 0000"),
     ("reset", "0e 0000"),
@@ -110,30 +111,48 @@ class BothWays(unittest.TestCase):
             self.assertEqual(tracetext.assemble("\n".join(tracetext.entries(trace))), trace)
 
     def test_other_ways_to_write_the_same(self):
+        bare = "send 1.2.3.4:5 request 1"
         for one, other in (("poll 1s", "poll 1000ms"), ("poll 1us", "poll 1000ns"), ("poll 2^61", "poll none"),
                            ("cancel 1", "cancel " + "0" * 23 + "1"), ("stats  # why", "stats"),
-                           ("bytes 00*4", "bytes 00,0000,00"), ("send 1.2.3.4:5 request 1 method=1", "send 1.2.3.4:5 request 1"),
-                           ("record 13", "stats"), ("\n\n# nothing\nstats", "stats"),
-                           ("send 1.2.3.4:5 request 1 0x0006=41", "send 1.2.3.4:5 request 1 0x0006=41/000000")):
+                           ("bytes 00*4", "bytes 00,0000,00"), ("record 13", "stats"),
+                           ("\n\n# nothing\nstats", "stats"), (f"{bare} method=1", bare),
+                           (f"{bare} 0x0006=41", f"{bare} 0x0006=41/000000")):
             self.assertEqual(tracetext.assemble(one), tracetext.assemble(other))
 
     def test_classes_and_methods(self):
-        for word, kind in (("request", "0001"), ("indication", "0011"), ("success", "0101"), ("error", "0111"), ("error 1 method=0xfff", "3fff")):
-            trace = tracetext.assemble("send 1.2.3.4:5 " + word + ("" if " " in word else " 1"))
+        for word, kind in (("request 1", "0001"), ("indication 1", "0011"), ("success 1", "0101"),
+                           ("error 1", "0111"), ("error 1 method=0xfff", "3fff")):
+            trace = tracetext.assemble(f"send 1.2.3.4:5 {word}")
             self.assertEqual(trace[32:34].hex(), kind)
 
 
 class Mistakes(unittest.TestCase):
     TABLE = [
-        ("pol 0", 1, 1, "a record"), ("stats\n  poll", 2, 7, "a clock"), ("poll 5x", 1, 6, "a clock"), ("poll 2^65", 1, 6, "a clock"),
-        ("poll 1 2", 1, 8, "the end of the line"), ("settings sctp", 1, 10, "udp or tcp"), ("settings udp stats=maybe", 1, 14, "stats="),
-        ("settings udp stats=on max=1", 1, 23, "initial="), ("cancel 1g", 1, 8, "an identifier"), ("cancel " + "0" * 25, 1, 8, "an identifier"),
-        ("is_peer 192.0.2.1", 1, 9, "an address"), ("is_peer 192.0.2.256:1", 1, 9, "an address"), ("is_peer [::g]:1", 1, 9, "an address"),
-        ("is_peer [::1]:65536", 1, 9, "an address"), ("is_peer [::1]:1 flow=x", 1, 17, "flow="), ("is_peer 1.2.3.4:5 flow=1", 1, 19, "the end of the line"),
-        ("send 1.2.3.4:5 reply 1", 1, 16, "request, success"), ("send 1.2.3.4:5 request 1 6=00", 1, 26, "an attribute"),
-        ("send 1.2.3.4:5 request 1 0x0006=00/0000", 1, 26, "an attribute"), ("send 1.2.3.4:5 raw 0", 1, 20, "bytes in hex"),
-        ("send 1.2.3.4:5 request 1 method=0x1000", 1, 26, "method="), ("record 256", 1, 8, "a kind"), ("bytes", 1, 6, "bytes in hex"),
-        ("configure 1 initial=1 max=2 R=4294967296 final=3", 1, 29, "R="), ("record 3 00*65536", 1, 18, "a body"),
+        ("pol 0", 1, 1, "a record"),
+        ("stats\n  poll", 2, 7, "a clock"),
+        ("poll 5x", 1, 6, "a clock"),
+        ("poll 2^65", 1, 6, "a clock"),
+        ("poll 1 2", 1, 8, "the end of the line"),
+        ("settings sctp", 1, 10, "udp or tcp"),
+        ("settings udp stats=maybe", 1, 14, "stats="),
+        ("settings udp stats=on max=1", 1, 23, "initial="),
+        ("cancel 1g", 1, 8, "an identifier"),
+        ("cancel " + "0" * 25, 1, 8, "an identifier"),
+        ("is_peer 192.0.2.1", 1, 9, "an address"),
+        ("is_peer 192.0.2.256:1", 1, 9, "an address"),
+        ("is_peer [::g]:1", 1, 9, "an address"),
+        ("is_peer [::1]:65536", 1, 9, "an address"),
+        ("is_peer [::1]:1 flow=x", 1, 17, "flow="),
+        ("is_peer 1.2.3.4:5 flow=1", 1, 19, "the end of the line"),
+        ("send 1.2.3.4:5 reply 1", 1, 16, "request, success"),
+        ("send 1.2.3.4:5 request 1 6=00", 1, 26, "an attribute"),
+        ("send 1.2.3.4:5 request 1 0x0006=00/0000", 1, 26, "an attribute"),
+        ("send 1.2.3.4:5 raw 0", 1, 20, "bytes in hex"),
+        ("send 1.2.3.4:5 request 1 method=0x1000", 1, 26, "method="),
+        ("record 256", 1, 8, "a kind"),
+        ("bytes", 1, 6, "bytes in hex"),
+        ("configure 1 initial=1 max=2 R=4294967296 final=3", 1, 29, "R="),
+        ("record 3 00*65536", 1, 18, "a body"),
     ]
 
     def test_place_and_what_was_expected(self):
@@ -186,9 +205,9 @@ class RecordedCases(unittest.TestCase):
     def test_a_case_without_sentence_judge_or_number_is_refused(self):
         good = "== one\n# It shows one.\nstats  # rust 1 refused 11\n"
         self.assertEqual(len(recordedtext.read(good)), 1)
-        for wrong in (good.replace("# It shows one.\n", ""), good.replace("rust", "who"), good.replace("1 ref", "2 ref")):
+        for part, wrong in (("# It shows one.\n", ""), ("rust", "who"), ("1 ref", "2 ref")):
             with self.assertRaises(ValueError):
-                recordedtext.read(wrong)
+                recordedtext.read(good.replace(part, wrong))
 
 
 if __name__ == "__main__":

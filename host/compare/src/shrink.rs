@@ -55,7 +55,7 @@ fn without_parts(mut parts: Vec<Vec<u8>>, shows: &dyn Fn(&[u8]) -> bool) -> Vec<
     parts
 }
 
-/// Takes the attributes out of messages.
+/// Takes the attributes and uncommon methods out of messages.
 fn with_bare_messages(mut parts: Vec<Vec<u8>>, shows: &dyn Fn(&[u8]) -> bool) -> Vec<Vec<u8>> {
     for at in 0..parts.len() {
         if let Some(bare) = bare(&parts[at]) {
@@ -75,8 +75,11 @@ fn bare(part: &[u8]) -> Option<Vec<u8>> {
         Record::Request { message: bytes, .. }
         | Record::Send { message: bytes, .. }
         | Record::Received { message: bytes, .. } => {
-            let head = Head::read(bytes).filter(|head| !head.attributes.is_empty())?;
+            let head = Head::read(bytes)?;
             let bare = message(head.class, 1, &head.id, &[]);
+            if bare == *bytes {
+                return None;
+            }
             *bytes = bare;
         }
         _ => return None,

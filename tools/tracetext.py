@@ -144,8 +144,8 @@ def some_bytes(word):
 
 
 def show_bytes(data):
-    """The same, a run of eight equal bytes or more as `00*20`."""
-    parts = re.findall(rb"(?s)((.)\2{7,})|((?:(.)(?!\4{7}))+)", data)
+    """The same, a run of eight equal bytes or more as `00*20` (of five digits at most)."""
+    parts = re.findall(rb"(?s)((.)\2{7,99998})|((?:(.)(?!\4{7}))+)", data)
     return ",".join(f"{run[:1].hex()}*{len(run)}" if run else rest.hex() for run, _, rest, _ in parts)
 
 

@@ -110,6 +110,11 @@ class BothWays(unittest.TestCase):
             trace = bytes(trace[:rng.randrange(len(trace) + 1)])
             self.assertEqual(tracetext.assemble("\n".join(tracetext.entries(trace))), trace)
 
+    def test_runs_of_bytes_come_back(self):
+        for count in (0, 1, 7, 8, 9, 99_999, 100_000, 100_005, 250_000):
+            for data in (bytes(count), b"\1" + bytes(count) + b"\2", b"\n" * count + b"\nab"):
+                self.assertEqual(tracetext.some_bytes(tracetext.show_bytes(data)), data)
+
     def test_other_ways_to_write_the_same(self):
         bare = "send 1.2.3.4:5 request 1"
         for one, other in (("poll 1s", "poll 1000ms"), ("poll 1us", "poll 1000ns"), ("poll 2^61", "poll none"),

@@ -93,3 +93,35 @@ impl Request {
         }
     }
 }
+
+#[cfg(test)]
+mod tests {
+    use super::*;
+
+    const MILLISECOND: u64 = 1_000_000;
+
+    /// The waits of these settings, in milliseconds.
+    fn waits(tcp: bool, initial: u64, max: u64, transmissions: u32, final_wait: u64) -> (Vec<u128>, u128) {
+        let rto = Rto {
+            initial: initial * MILLISECOND,
+            max: max.saturating_mul(MILLISECOND).min(NO_MAXIMUM),
+            transmissions,
+            final_wait: final_wait * MILLISECOND,
+        };
+        let found = Waits::new(tcp, &rto);
+        let shown = |wait: u128| wait / u128::from(MILLISECOND);
+        (found.between.into_iter().map(shown).collect(), shown(found.last))
+    }
+
+    #[test]
+    fn the_documents_specimens() {
+        let default = vec![500, 1000, 2000, 4000, 8000, 16_000];
+        assert_eq!(waits(false, 500, NO_MAXIMUM, 7, 8000), (default, 8000), "S1");
+        assert_eq!(waits(false, 500, NO_MAXIMUM, 0, 8000), (vec![], 8000), "S2");
+        assert_eq!(waits(false, 500, NO_MAXIMUM, 1, 8000), (vec![], 8000), "S2");
+        assert_eq!(waits(false, 500, 3000, 6, 8000).0, [500, 1000, 2000, 3000, 3000], "S3");
+        let long = Rto { initial: 1, max: NO_MAXIMUM, transmissions: 33, final_wait: 0 };
+        assert_eq!(Waits::new(false, &long).between.last(), Some(&2_147_483_648), "S4");
+        assert_eq!(waits(true, 500, NO_MAXIMUM, 7, 8000), (vec![], 39_500), "S5");
+    }
+}

@@ -4,22 +4,13 @@
 //! the second reading. Exits 1, with the place on standard error, where the two part or the Rust panics.
 
 use oracle::{judge, Judge};
-use std::io::{Read, Write};
+use std::io::Write;
 use std::process::ExitCode;
 
-fn trace(file: Option<String>) -> std::io::Result<Vec<u8>> {
-    let mut bytes = Vec::new();
-    match file {
-        Some(file) => bytes = std::fs::read(file)?,
-        None => drop(std::io::stdin().read_to_end(&mut bytes)?),
-    }
-    Ok(bytes)
-}
-
 fn main() -> std::io::Result<ExitCode> {
-    let mut arguments = std::env::args().skip(1).peekable();
-    let judges = arguments.next_if_eq("--judges").is_some();
-    let judged = match judge(&trace(arguments.next())?) {
+    let mut arguments = std::env::args_os().skip(1).peekable();
+    let judges = arguments.next_if(|word| word == "--judges").is_some();
+    let judged = match judge(&reading::read_trace(arguments.next())?) {
         Ok(judged) => judged,
         Err(disagreement) => {
             eprintln!("{disagreement}");

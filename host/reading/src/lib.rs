@@ -12,6 +12,6 @@ mod statistics;
 
 pub use agent::Agent;
 pub use refusals::ROWS;
-pub use replay::{replay, replay_into, Replay, Turn};
+pub use replay::{read_trace, replay, replay_into, Replay, Turn};
 pub use request::{Request, Standing, Waits};
 pub use statistics::Statistics;

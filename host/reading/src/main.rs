@@ -1,12 +1,8 @@
 //! Plays a trace from standard input, or from the file that is named, and prints the second reading's lines.
 
-use std::io::{Read, Write};
+use std::io::Write;
 
 fn main() -> std::io::Result<()> {
-    let mut trace = Vec::new();
-    match std::env::args_os().nth(1) {
-        Some(file) => trace = std::fs::read(file)?,
-        None => drop(std::io::stdin().read_to_end(&mut trace)?),
-    }
+    let trace = reading::read_trace(std::env::args_os().nth(1))?;
     std::io::stdout().write_all(records::lines(&reading::replay(&trace)).as_bytes())
 }

@@ -3,6 +3,9 @@
 use crate::refusals::settings_refused;
 use crate::Agent;
 use records::{lines, Answer, Read, Record};
+use std::ffi::OsString;
+use std::fs::File;
+use std::io::Read as _;
 
 /// A replay in progress.
 #[derive(Debug)]
@@ -67,6 +70,16 @@ impl Iterator for Replay<'_> {
             }
         }
     }
+}
+
+/// The trace in a file, or on standard input where none is named.
+pub fn read_trace(file: Option<OsString>) -> std::io::Result<Vec<u8>> {
+    let mut trace = Vec::new();
+    match file {
+        Some(file) => File::open(file)?.read_to_end(&mut trace)?,
+        None => std::io::stdin().read_to_end(&mut trace)?,
+    };
+    Ok(trace)
 }
 
 /// All answers to a trace.

@@ -29,6 +29,9 @@ def host_program(name):
 
 
 def run_program(words, trace):
-    """The lines of a program that takes a trace on standard input; None where it fails."""
-    done = subprocess.run(words, input=trace, stdout=subprocess.PIPE)
+    """The lines of a program that takes a trace on standard input; None where it fails or takes a minute."""
+    try:
+        done = subprocess.run(words, input=trace, stdout=subprocess.PIPE, timeout=60)
+    except subprocess.TimeoutExpired:
+        return None
     return done.stdout.decode(errors="replace") if done.returncode == 0 else None

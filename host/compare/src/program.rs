@@ -1,12 +1,20 @@
 //! What is compared: a command line, or a replay in this process.
 
 use std::fs::{self, File};
-use std::path::PathBuf;
-use std::process::{Command, Stdio};
+use std::path::{Path, PathBuf};
+use std::process::{Child, Command, ExitStatus};
+use std::thread::sleep;
+use std::time::{Duration, Instant};
 
 /// The call that a static library offers a Rust test host: trace bytes in, lines into a lent buffer,
 /// their byte count back. A library that is linked one day goes into `Program::Linked`.
 pub type Replay = unsafe extern "C" fn(trace: *const u8, trace_len: usize, out: *mut u8, out_len: usize) -> usize;
+
+/// How long a program may take over what it is given at one start.
+pub const TIME_LIMIT: Duration = Duration::from_secs(20);
+
+/// How often it is looked after.
+const LOOK: Duration = Duration::from_micros(100);
 
 /// No line is longer: a number, `stats` and 14 numbers of 20 digits.
 const LONGEST_LINE: usize = 320;
@@ -33,21 +41,37 @@ impl Program {
     }
 }
 
-fn command_lines(words: &[String], scratch: &PathBuf, trace: &[u8]) -> Result<String, String> {
+/// Input and output are files, so that neither side waits for the other.
+fn command_lines(words: &[String], scratch: &Path, trace: &[u8]) -> Result<String, String> {
     let failed = |error: std::io::Error| format!("{words:?}: {error}");
     fs::write(scratch, trace).map_err(failed)?;
+    let answers = scratch.with_extension("lines");
     let file = scratch.display().to_string();
     let arguments = words[1..].iter().map(|word| if word == "{}" { &file } else { word });
-    let output = Command::new(&words[0])
+    let child = Command::new(&words[0])
         .args(arguments)
         .stdin(File::open(scratch).map_err(failed)?)
-        .stderr(Stdio::inherit())
-        .output()
+        .stdout(File::create(&answers).map_err(failed)?)
+        .spawn()
         .map_err(failed)?;
-    if !output.status.success() {
-        return Err(format!("{words:?}: {}", output.status));
+    match ended(child).map_err(failed)? {
+        Some(status) if status.success() => fs::read_to_string(&answers).map_err(failed),
+        Some(status) => Err(format!("{words:?}: {status}")),
+        None => Err(format!("{words:?}: not done after {} s", TIME_LIMIT.as_secs())),
     }
-    String::from_utf8(output.stdout).map_err(|error| format!("{words:?}: {error}"))
+}
+
+/// How a program ended; none where it had to be stopped.
+fn ended(mut child: Child) -> std::io::Result<Option<ExitStatus>> {
+    let start = Instant::now();
+    while start.elapsed() < TIME_LIMIT {
+        if let Some(status) = child.try_wait()? {
+            return Ok(Some(status));
+        }
+        sleep(LOOK);
+    }
+    child.kill()?;
+    child.wait().map(|_| None)
 }
 
 fn linked_lines(replay: Replay, trace: &[u8]) -> Result<String, String> {

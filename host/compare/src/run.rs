@@ -1,11 +1,13 @@
 //! A run: traces of some families over a range of seeds, judged, counted and compared.
 
+use crate::program::TIME_LIMIT;
 use crate::shrink::shrink;
 use crate::{Difference, Program, Tally};
 use generate::Family;
 use oracle::{judge, Judge, Judged};
 use records::lines;
 use std::ops::Range;
+use std::time::Instant;
 
 /// What to run.
 pub struct Run {
@@ -56,27 +58,40 @@ impl Run {
     /// Compares the program's lines on these traces, played as one.
     fn compare(&self, cases: &[Case]) -> Result<(), Difference> {
         let Some(program) = &self.program else { return Ok(()) };
-        let shows = |trace: &[u8]| fault(program, trace).is_some();
         let joined: Vec<u8> = cases.iter().flat_map(|case| case.trace.clone()).collect();
         let expected = lines(cases.iter().flat_map(|case| case.judged.iter().map(|line| &line.answer)));
-        if program.lines(&joined).as_ref() == Ok(&expected) {
-            return Ok(());
+        let start = Instant::now();
+        match program.lines(&joined) {
+            Ok(found) if found == expected => Ok(()),
+            // What made it run out of its time isn't shortened: each try would take as long.
+            Err(what) if start.elapsed() >= TIME_LIMIT => {
+                Err(Difference { origin: origin(cases), what, trace: joined, expected, found: String::new() })
+            }
+            _ => Err(shortened(program, cases, &joined)),
         }
-        let alone = cases.iter().find(|case| shows(&case.trace));
-        let origin = match (alone, cases) {
-            (Some(case), _) => case.origin.clone(),
-            (None, [first, .., last]) => format!("{} to {}, played as one", first.origin, last.origin),
-            (None, _) => "a difference that didn't come again".to_owned(),
-        };
-        let least = shrink(alone.map_or(joined.as_slice(), |case| &case.trace), &shows);
-        let what = fault(program, &least).unwrap_or_else(|| "the program's lines change from run to run".to_owned());
-        Err(Difference {
-            origin,
-            what,
-            expected: judge(&least).map_or_else(|parted| parted.to_string(), |judged| text(&judged)),
-            found: program.lines(&least).unwrap_or_else(|fault| fault),
-            trace: least,
-        })
+    }
+}
+
+/// The difference in one of these traces, or in all as one, made as short as it gets.
+fn shortened(program: &Program, cases: &[Case], joined: &[u8]) -> Difference {
+    let shows = |trace: &[u8]| fault(program, trace).is_some();
+    let alone = cases.iter().find(|case| shows(&case.trace));
+    let trace = shrink(alone.map_or(joined, |case| &case.trace), &shows);
+    Difference {
+        origin: origin(alone.map_or(cases, std::slice::from_ref)),
+        what: fault(program, &trace).unwrap_or_else(|| "the program's lines change from run to run".to_owned()),
+        expected: judge(&trace).map_or_else(|parted| parted.to_string(), |judged| text(&judged)),
+        found: program.lines(&trace).unwrap_or_else(|fault| fault),
+        trace,
+    }
+}
+
+/// Where these traces come from.
+fn origin(cases: &[Case]) -> String {
+    match cases {
+        [] => "no trace".to_owned(),
+        [only] => only.origin.clone(),
+        [first, .., last] => format!("{} to {}, played as one", first.origin, last.origin),
     }
 }
 

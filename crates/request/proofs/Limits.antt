@@ -20,7 +20,7 @@ use Rattle.waits.specs.declared.Transport.{Transport}
 use Rattle.waits.proofs.Limits as waits-limits
 use Rattle.request.specs.Times.{passedAll, dueOf, endOf, dueBy, isDue}
 use Rattle.request.specs.Request.{newRequest, submitted, steppedBy, stepped, silenced, cancelled, configured, transmitOf}
-use Rattle.request.specs.Limits.{NewLimits, TimesLimits, RequestLimits, timesWithin, requestWithin}
+use Rattle.request.specs.Limits.{NewLimits, TimesLimits, RequestLimits, timesWithin, withinLimits}
 use Rattle.request.specs.Answers.{recordAfter}
 use Rattle.request.proofs.Answers.{after-exactly}
 use Rattle.request.specs.declared.SendTimes.{SendTimes}
@@ -34,32 +34,32 @@ pub times-order : (mark first last : ℕ) (ts : SendTimes) → ts ≡ Sent first
 times-order mark first last ts e h = rw e (simp (le-leb _ _ h))
 
 module _ (rows mark : ℕ) (r : StunRequestState) where
-  pub too-short : r .len < 20 → false ≡ requestWithin rows mark r
-  unfolding requestWithin
+  pub too-short : r .len < 20 → false ≡ withinLimits rows mark r
+  unfolding withinLimits
   too-short h = simp (lt-leb _ _ h)
 
   module _ (least : 20 ≤ r .len) where
-    pub too-long : 1024 < r .len → false ≡ requestWithin rows mark r
-    unfolding requestWithin
+    pub too-long : 1024 < r .len → false ≡ withinLimits rows mark r
+    unfolding withinLimits
     too-long h = simp (le-leb _ _ least, lt-leb _ _ h)
 
     module _ (most : r .len ≤ 1024) where
-      pub no-row : rows ≤ r .row → false ≡ requestWithin rows mark r
-      unfolding requestWithin
+      pub no-row : rows ≤ r .row → false ≡ withinLimits rows mark r
+      unfolding withinLimits
       no-row h = simp (le-leb _ _ least, le-leb _ _ most, le-ltb _ _ h)
 
       module _ (row : r .row < rows) where
-        pub too-many : 32 < r .«timeout_i» → false ≡ requestWithin rows mark r
-        unfolding requestWithin
+        pub too-many : 32 < r .«timeout_i» → false ≡ withinLimits rows mark r
+        unfolding withinLimits
         too-many h = simp (le-leb _ _ least, le-leb _ _ most, lt-ltb _ _ row, lt-leb _ _ h)
 
         module _ (count : r .«timeout_i» ≤ 32) where
-          pub bad-settings : waits.withinLimits (r .rto) ≡ false → false ≡ requestWithin rows mark r
-          unfolding requestWithin
+          pub bad-settings : waits.withinLimits (r .rto) ≡ false → false ≡ withinLimits rows mark r
+          unfolding withinLimits
           bad-settings h = simp (le-leb _ _ least, le-leb _ _ most, lt-ltb _ _ row, le-leb _ _ count, h)
 
-          pub times-decide : waits.withinLimits (r .rto) ≡ true → timesWithin mark (r .«send_times») ≡ requestWithin rows mark r
-          unfolding requestWithin
+          pub times-decide : waits.withinLimits (r .rto) ≡ true → timesWithin mark (r .«send_times») ≡ withinLimits rows mark r
+          unfolding withinLimits
           times-decide h = simp (le-leb _ _ least, le-leb _ _ most, lt-ltb _ _ row, le-leb _ _ count, h)
 
 times-limits : (mark : ℕ) (ts : SendTimes) → timesWithin mark ts ≡ true → TimesLimits mark ts
@@ -73,8 +73,8 @@ times-within mark Never h = refl
 times-within mark (Sent first last) h = simp (le-leb _ _ (h .0), le-leb _ _ (h .1))
 
 module _ (rows mark : ℕ) (r : StunRequestState) where
-  limits : requestWithin rows mark r ≡ true → RequestLimits rows mark r
-  unfolding requestWithin
+  limits : withinLimits rows mark r ≡ true → RequestLimits rows mark r
+  unfolding withinLimits
   limits e =
       let a = and-eq-true-iff _ _ .0 e in
       let b = and-eq-true-iff _ _ .0 (a .1) in
@@ -90,8 +90,8 @@ module _ (rows mark : ℕ) (r : StunRequestState) where
         times = times-limits mark (r .«send_times») (f .1);
       }
 
-  within : RequestLimits rows mark r → requestWithin rows mark r ≡ true
-  unfolding requestWithin
+  within : RequestLimits rows mark r → withinLimits rows mark r ≡ true
+  unfolding withinLimits
   within l =
       simp (
         le-leb _ _ (l .least),
@@ -102,7 +102,7 @@ module _ (rows mark : ℕ) (r : StunRequestState) where
         times-within mark (r .«send_times») (l .times),
       )
 
-  pub within-limits : (requestWithin rows mark r ≡ true) ↔ RequestLimits rows mark r
+  pub within-limits : (withinLimits rows mark r ≡ true) ↔ RequestLimits rows mark r
   within-limits = (limits, within)
 
 last-by : (mark first last : ℕ) (ts : SendTimes) → ts ≡ Sent first last → TimesLimits mark ts → (last ≤ mark) × (first ≤ last)

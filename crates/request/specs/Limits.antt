@@ -36,8 +36,8 @@ timesWithin mark Never = true
 timesWithin mark (Sent first last) = leb last mark && leb first last
 
 -- The limits of a record as a test. Refusal 1, STATE, is given where it fails.
-unfoldable pub requestWithin : ℕ → ℕ → StunRequestState → Bool
-requestWithin rows mark r =
+unfoldable pub withinLimits : ℕ → ℕ → StunRequestState → Bool
+withinLimits rows mark r =
     leb 20 (r .len)
     && (leb (r .len) 1024
     && (ltb (r .row) rows && (leb (r .«timeout_i») 32 && (waits.withinLimits (r .rto) && timesWithin mark (r .«send_times»)))))

@@ -15,7 +15,7 @@ ghost use mathlib.Core.Bool.{_&&_};
 ghost use Prim.Native.Nat.{_^_, _≤_, _<_};
 ghost use Rattle.request.specs.Times.{passedAll, nextOf, rttOf};
 ghost use Rattle.request.specs.Request.{newRequest, submitted, withTimes, stepped, silenced, cancelled, configured, transmitOf, pollOf};
-ghost use Rattle.request.specs.Limits.{NewLimits, timesWithin, requestWithin, RequestLimits};
+ghost use Rattle.request.specs.Limits.{NewLimits, timesWithin, withinLimits, RequestLimits};
 
 // `first_send_time` and `last_send_time`: both absent or both present.
 pub enum SendTimes {
@@ -123,7 +123,7 @@ impl StunRequestState {
 
     // Whether a record that the host may have made is one that document 01 calls well formed, at the agent's clock mark.
     pub fn within_limits(self, mark: u64) -> bool
-        ensures { λ r. ⌜ r ≡ requestWithin 32 mark self ⌝ }
+        ensures { λ r. ⌜ r ≡ withinLimits 32 mark self ⌝ }
     {
         if self.len < 20 {
             return false;

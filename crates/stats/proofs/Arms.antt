@@ -1,5 +1,5 @@
 -- An arm of a `match` in this crate's code knows its variant: what holds of the variant holds of the value matched.
-use mathlib.Core.Path.{_≡_, refl, _∙_}
+use mathlib.Core.Path.{_≡_, refl}
 use Prim.Native.Nat.{ℕ}
 use Rattle.stats.specs.Count.{timesOf, timedBy, withTimes, counted, zeroed}
 use Rattle.stats.specs.declared.StunAgentStats.{StunAgentStats}
@@ -24,7 +24,8 @@ pub reset : (s : StunAgentStats) → zeroed ≡ counted Reset s
 unfolding counted
 reset s = refl
 
-pub response : (n : ℕ) (t : Rtt) (s : StunAgentStats) → counted (ResponseReceived n Absent) (withTimes (timedBy t (timesOf s)) s) ≡ counted (ResponseReceived n t) s
+pub response : (n : ℕ) (t : Rtt) (s : StunAgentStats)
+    → counted (ResponseReceived n Absent) (withTimes (timedBy t (timesOf s)) s) ≡ counted (ResponseReceived n t) s
 unfolding counted
 response n Absent s = refl
 response n (Nanos t) s = refl

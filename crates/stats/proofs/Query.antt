@@ -1,5 +1,5 @@
 -- Each answer of the queries, from what the code tested; the average is the floor; refusal 12 is given exactly where the count is below zero.
-use mathlib.Core.Path.{_≡_, refl, sym}
+use mathlib.Core.Path.{_≡_, refl}
 use mathlib.Core.Bool.{Bool, true, false, cond}
 use Prim.Native.Nat.{ℕ, zero, suc, _+_, _-_, _*_, _/_, _≤_, _<_}
 use native.Mathlib.Nat.{le-div-iff-mul-le, div-lt-iff-lt-mul}
@@ -36,7 +36,8 @@ module _ (s : StunAgentStats) where
       simp (le-leb _ _ fits, rest)
 
 -- The average is the floor: no more than the sum, counted as often as there are samples, and one more would pass it.
-pub average-floor : (s : StunAgentStats) (q : ℕ) → averageOf s ≡ Nanos q → (q * s .«rtt_count» ≤ s .«rtt_sum») × (s .«rtt_sum» < (q + 1) * s .«rtt_count»)
+pub average-floor : (s : StunAgentStats) (q : ℕ) → averageOf s ≡ Nanos q
+    → (q * s .«rtt_count» ≤ s .«rtt_sum») × (s .«rtt_sum» < (q + 1) * s .«rtt_count»)
 unfolding averageOf
 average-floor s q e = go (s .«rtt_sum») (s .«rtt_count») e
   where
@@ -44,8 +45,10 @@ average-floor s q e = go (s .«rtt_sum») (s .«rtt_count») e
     go sum zero e = absurd (let z : _≡_ {A = ℕ} 0 1 = cc in omega arith)
     go sum (suc n) e =
         let d : sum / suc n ≡ q = cc in
-        let some : 0 < suc n = omega arith in
-        (le-div-iff-mul-le {k = suc n} {x = q} {y = sum} some .0 (omega arith), div-lt-iff-lt-mul {k = suc n} {x = sum} {y = q + 1} some .0 (omega arith))
+        let some : 0 < suc n = omega arith in (
+          le-div-iff-mul-le {k = suc n} {x = q} {y = sum} some .0 (omega arith),
+          div-lt-iff-lt-mul {k = suc n} {x = sum} {y = q + 1} some .0 (omega arith),
+        )
 
 -- Refusal 12, COUNTS, exactly where more requests are settled than were sent; else the answer is what is left.
 module _ (s : StunAgentStats) where

@@ -1,5 +1,5 @@
 -- The words of the laws about the statistics: the stops, the requests opened and settled, and the spread of the round trips.
-use Prim.Native.Nat.{ℕ, _+_, _-_, _*_, _^_, _≤_, _<_}
+use Prim.Native.Nat.{ℕ, _-_, _*_, _^_, _≤_, _<_}
 use mathlib.Core.Path.{_≡_}
 use Rattle.stats.specs.declared.Rtt.{Rtt}
 use Rattle.stats.specs.declared.Rtt.the-variants.{Absent, Nanos}

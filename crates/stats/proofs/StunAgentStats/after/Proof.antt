@@ -93,7 +93,11 @@ returns-6 : tie.Need-returns-6
 returns-6 c = of-event _ (c .before .before .event5 .given .1) (c .record-response-sent .ensures)
 
 returns-7 : tie.Need-returns-7
-returns-7 c = of-event _ (c .before .before .before .event6 .given .1) (c .record-response-received .ensures ∙ ap (counted (ResponseReceived _ Absent)) (c .before .record-rtt-if-any .ensures) ∙ response _ _ _)
+returns-7 c =
+    of-event _ (c .before .before .before .event6 .given .1)
+    (c .record-response-received .ensures
+    ∙ ap (counted (ResponseReceived _ Absent)) (c .before .record-rtt-if-any .ensures)
+    ∙ response _ _ _)
 
 returns-8 : tie.Need-returns-8
 returns-8 c = of-event _ (c .before .before .event7 .given .1) (c .record-retransmit-bytes .ensures)

@@ -1,12 +1,12 @@
 -- An arm of a `match` in this crate's code knows its variant: what holds of the variant holds of the value matched.
 use mathlib.Core.Path.{_≡_, refl}
 use Prim.Native.Nat.{ℕ}
-use Rattle.stats.specs.Count.{timesOf, timedBy, withTimes, counted, zeroed}
+use Rattle.stats.specs.Count.{timesOf, timedBy, withTimes, counted}
 use Rattle.stats.specs.declared.StunAgentStats.{StunAgentStats}
 use Rattle.stats.specs.declared.Rtt.{Rtt}
 use Rattle.stats.specs.declared.Rtt.the-variants.{Absent, Nanos}
 use Rattle.stats.specs.declared.Event.{Event}
-use Rattle.stats.specs.declared.Event.the-variants.{Nothing, ResponseReceived, Reset}
+use Rattle.stats.specs.declared.Event.the-variants.{ResponseReceived}
 
 module _ (s : StunAgentStats) {r : StunAgentStats} where
   pub of-sample : {t u : Rtt} → t ≡ u → r ≡ withTimes (timedBy u (timesOf s)) s → r ≡ withTimes (timedBy t (timesOf s)) s
@@ -15,15 +15,7 @@ module _ (s : StunAgentStats) {r : StunAgentStats} where
   pub of-event : {e f : Event} → e ≡ f → r ≡ counted f s → r ≡ counted e s
   of-event e h = rw e h
 
--- The three events that no single method counts.
-pub nothing : (s : StunAgentStats) → s ≡ counted Nothing s
-unfolding counted
-nothing s = refl
-
-pub reset : (s : StunAgentStats) → zeroed ≡ counted Reset s
-unfolding counted
-reset s = refl
-
+-- A response with a round trip is counted in two steps.
 pub response : (n : ℕ) (t : Rtt) (s : StunAgentStats)
     → counted (ResponseReceived n Absent) (withTimes (timedBy t (timesOf s)) s) ≡ counted (ResponseReceived n t) s
 unfolding counted

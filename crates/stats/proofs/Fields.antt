@@ -1,11 +1,12 @@
 -- Which fields an event leaves alone, and how far it moves the others.
 --     counters-moved        the ten counters, by the table `movesOf`
 --     times-after           the four numbers on round trips
+--     nothing, reset        the two events that no number depends on
 --     opened, settled-by    below the stops, what an event other than a reset adds to the two sides of the count of outstanding requests
 use mathlib.Core.Path.{_≡_, refl}
 use Prim.Native.Nat.{_+_}
 use native.Mathlib.Omega.{arith}
-use Rattle.stats.specs.Count.{moved, movesOf, timesOf, timesAfter, counted}
+use Rattle.stats.specs.Count.{moved, movesOf, timesOf, timesAfter, counted, zeroed}
 use Rattle.stats.specs.Query.{settled}
 use Rattle.stats.specs.Laws.{BelowStops, opens, settles}
 use Rattle.stats.specs.declared.StunAgentStats.{StunAgentStats}
@@ -56,6 +57,14 @@ unfolding counted
 times-after e s = refl
 
 module _ (s : StunAgentStats) where
+  pub nothing : s ≡ counted Nothing s
+  unfolding counted
+  nothing = refl
+
+  pub reset : zeroed ≡ counted Reset s
+  unfolding counted
+  reset = refl
+
   pub opened : (e : Event) → (e ≡ Reset → ⊥) → BelowStops (counted e s) → counted e s .«requests_sent» ≡ s .«requests_sent» + opens e
   unfolding counted
   opened Nothing other below = omega arith

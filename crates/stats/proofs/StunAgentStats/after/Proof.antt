@@ -3,7 +3,8 @@ use mathlib.Core.Path.{ap, _∙_}
 use Rattle.stats.specs.Count.{counted}
 use Rattle.stats.specs.declared.Rtt.the-variants.{Absent}
 use Rattle.stats.specs.declared.Event.the-variants.{ResponseReceived}
-use Rattle.stats.proofs.Arms.{of-event, nothing, reset, response}
+use Rattle.stats.proofs.Arms.{of-event, response}
+use Rattle.stats.proofs.Fields.{nothing, reset}
 use borrow.Author.Needs.{needs}
 use Rattle.stats.proofs.StunAgentStats.after.Statement.{statement}
 use Rattle.stats.proofs.StunAgentStats.after.Tie as tie

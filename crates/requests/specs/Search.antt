@@ -2,6 +2,7 @@
 use Prim.Native.Nat.{ℕ, zero, suc, _+_}
 use mathlib.Core.Bool.{Bool, cond}
 use mathlib.Core.List.{List, [], _∷_, map}
+use mathlib.Core.Option.{Option, none, some}
 use lib.Dec.{eqb, ltb}
 use Rattle.rows.specs.Lists.{insertAt, among}
 use Rattle.message.specs.Head.{key}
@@ -51,3 +52,8 @@ freeFrom i (suc n) taken = cond (among i taken) (freeFrom (i + 1) n taken) (Row 
 
 abbrev pub freeRow : ℕ → List StunRequestState → FreeRow
 freeRow n l = freeFrom 0 n (rowsOf l)
+
+-- The request that was found, whatever its place.
+abbrev pub requestOf : Found → Option StunRequestState
+requestOf (At place request) = some request
+requestOf Nothing = none

@@ -27,7 +27,7 @@ use Rattle.formed.specs.Order.{isAfter, nextOf}
 use Rattle.formed.specs.declared.Next.{Next}
 use Rattle.formed.specs.declared.Next.the-variants.{Id, End}
 use Rattle.formed.proofs.Flags.{flag-at}
-use Rattle.formed.proofs.Down.{flagged-none, mark-taken}
+use Rattle.formed.proofs.Loaded.{flagged-none, mark-taken}
 
 pub after-id : (n : Next) (a : TransactionId) (k : ℕ) → n ≡ Id a → isAfter (Id a) k ≡ isAfter n k
 after-id n a k e = ap (λ (m : Next). isAfter m k) (sym e)

@@ -10,7 +10,7 @@ use lib.ListN.{drop, length, length-drop}
 use Rattle.requests.proofs.Formed.{too-many}
 use Rattle.records.specs.Live.{live}
 use Rattle.records.proofs.Live.{live-end, length-live}
-use Rattle.formed.proofs.Down.{loaded-down}
+use Rattle.formed.proofs.Loaded.{loaded-down}
 use Rattle.formed.proofs.Formed.{Passed, passed-none, passed-next, no-limits, row-again, not-before, formed-part, formed-whole, row-below}
 use Rattle.formed.proofs.is_formed.Statement.{statement}
 use Rattle.formed.proofs.is_formed.Tie as tie

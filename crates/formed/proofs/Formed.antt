@@ -12,7 +12,6 @@ use native.Mathlib.Omega.{arith}
 use lib.ListN.{length, getD, set, drop, replicate, length-drop}
 use Rattle.rows.specs.Lists.{all, among}
 use Rattle.message.specs.declared.TransactionId.{TransactionId}
-use Rattle.message.specs.Head.{key}
 use Rattle.request.specs.Limits.{withinLimits}
 use Rattle.request.specs.declared.StunRequestState.{StunRequestState}
 use Rattle.request.proofs.Limits.{within-limits}

@@ -1,18 +1,17 @@
 -- The test of well-formedness, from the last request to the first.
 --     Passed, passed-none, passed-next              what holds of the requests read so far
 --     no-limits, row-again, not-before              one law for each test that fails
---     formed-part, formed-whole                     from the requests read to all of them
+--     formed-whole                                  from the requests read to all of them
 --     most-rows                                     words that hold well-formed requests hold at most `rows`
 --     row-below, after-id                           what a request's limits say of its row; the identifier behind
-use Prim.Native.Nat.{ℕ, zero, suc, _≤_, _<_}
+use Prim.Native.Nat.{ℕ, zero, suc, _-_, _≤_, _<_}
 use mathlib.Core.Path.{_≡_, refl, sym, ap, _∙_}
 use mathlib.Core.Bool.{Bool, true, false, not, _&&_, and-eq-true-iff}
 use mathlib.Core.List.{List, [], _∷_}
 use native.Mathlib.Omega.{arith}
-use lib.ListN.{length, getD, set, drop, replicate}
+use lib.ListN.{length, getD, set, drop, replicate, length-drop}
 use Rattle.rows.specs.Lists.{all, among}
 use Rattle.message.specs.declared.TransactionId.{TransactionId}
-use Rattle.message.specs.Head.{key}
 use Rattle.request.specs.Limits.{withinLimits}
 use Rattle.request.specs.declared.StunRequestState.{StunRequestState}
 use Rattle.request.proofs.Limits.{within-limits}
@@ -27,7 +26,7 @@ use Rattle.formed.specs.Order.{isAfter, nextOf}
 use Rattle.formed.specs.declared.Next.{Next}
 use Rattle.formed.specs.declared.Next.the-variants.{Id, End}
 use Rattle.formed.proofs.Flags.{flag-at}
-use Rattle.formed.proofs.Down.{flagged-none, mark-taken}
+use Rattle.formed.proofs.Loaded.{flagged-none, mark-taken}
 
 pub after-id : (n : Next) (a : TransactionId) (k : ℕ) → n ≡ Id a → isAfter (Id a) k ≡ isAfter n k
 after-id n a k e = ap (λ (m : Next). isAfter m k) (sym e)
@@ -53,7 +52,7 @@ module _ (rows mark : ℕ) where
   formed-drop (r ∷ rs) (suc i) f = formed-drop rs i (formed-tail r rs f)
 
   module _ (l : List StunRequestState) (i : ℕ) where
-    pub formed-part : formed rows mark (drop i l) ≡ false → false ≡ formed rows mark l
+    formed-part : formed rows mark (drop i l) ≡ false → false ≡ formed rows mark l
     formed-part e = sym (is-false (formed rows mark l) (λ f. apart (sym (whole f) ∙ e)))
       where
         whole : formed rows mark l ≡ true → formed rows mark (drop i l) ≡ true
@@ -83,42 +82,50 @@ module _ (rows mark : ℕ) where
     first = ap nextOf (sym e);
   }
 
-  module _ (rs rs′ : List StunRequestState) (taken : List Bool) (next : Next) (w : Passed rs taken next) (r : StunRequestState) (e : rs′ ≡ r ∷ rs) where
-    refused : false ≡ formed rows mark (r ∷ rs) → formed rows mark rs′ ≡ false
-    refused f = ap (formed rows mark) e ∙ sym f
+  -- one more is read: r, which stands before them
+  module _ (l : List StunRequestState) (i : ℕ) (taken : List Bool) (next : Next) (w : Passed (drop i l) taken next) (r : StunRequestState) (e : drop (i - 1) l ≡ r ∷ drop i l) where
+    refused : false ≡ formed rows mark (r ∷ drop i l) → false ≡ formed rows mark l
+    refused f = formed-part l (i - 1) (ap (formed rows mark) e ∙ sym f)
 
-    pub no-limits : withinLimits rows mark r ≡ false → formed rows mark rs′ ≡ false
-    no-limits f = refused (out-of-limits rows mark (r ∷ rs) (ap (λ (b : Bool). b && all (withinLimits rows mark) rs) f))
+    flag-says : (d : Bool) → r .row < rows → getD taken (r .row) d ≡ among (r .row) (rowsOf (drop i l))
+    flag-says d h = ap (λ (m : List Bool). getD m (r .row) d) (w .flagged) ∙ flag-at rows (r .row) (rowsOf (drop i l)) d h
 
-    flag-says : (d : Bool) → r .row < rows → getD taken (r .row) d ≡ among (r .row) (rowsOf rs)
-    flag-says d h = ap (λ (l : List Bool). getD l (r .row) d) (w .flagged) ∙ flag-at rows (r .row) (rowsOf rs) d h
-
-    pub row-again : (d : Bool) → r .row < rows → getD taken (r .row) d ≡ true → formed rows mark rs′ ≡ false
-    row-again d h f =
-        refused (row-twice rows mark (r ∷ rs) (ap (λ (b : Bool). not b && different (rowsOf rs)) (sym (flag-says d h) ∙ f)))
-
-    after-says : isAfter next (keyOf r) ≡ isAfter (nextOf rs) (keyOf r)
+    after-says : isAfter next (keyOf r) ≡ isAfter (nextOf (drop i l)) (keyOf r)
     after-says = ap (λ (m : Next). isAfter m (keyOf r)) (w .first)
 
-    pub not-before : isAfter next (keyOf r) ≡ false → formed rows mark rs′ ≡ false
+    pub no-limits : withinLimits rows mark r ≡ false → false ≡ formed rows mark l
+    no-limits f = refused (out-of-limits rows mark (r ∷ drop i l) (ap (λ (b : Bool). b && all (withinLimits rows mark) (drop i l)) f))
+
+    pub row-again : (d : Bool) → r .row < rows → getD taken (r .row) d ≡ true → false ≡ formed rows mark l
+    row-again d h f =
+        refused (row-twice rows mark (r ∷ drop i l) (ap (λ (b : Bool). not b && different (rowsOf (drop i l))) (sym (flag-says d h) ∙ f)))
+
+    pub not-before : isAfter next (keyOf r) ≡ false → false ≡ formed rows mark l
     not-before f =
         refused
-        (out-of-order rows mark (r ∷ rs) (ascending-after r rs ∙ ap (λ (b : Bool). b && ascending (keysOf rs)) (sym (after-says) ∙ f)))
+        (out-of-order
+        rows
+        mark
+        (r ∷ drop i l)
+        (ascending-after r (drop i l) ∙ ap (λ (b : Bool). b && ascending (keysOf (drop i l))) (sym after-says ∙ f)))
 
-    pub passed-next : (d : Bool) → length rs′ ≤ rows → withinLimits rows mark r ≡ true → getD taken (r .row) d ≡ false → isAfter next (keyOf r) ≡ true
-        → Passed rs′ (set taken (r .row) true) (Id (r .«transaction_id»))
+    pub passed-next : (d : Bool) → length l ≤ rows → withinLimits rows mark r ≡ true → getD taken (r .row) d ≡ false → isAfter next (keyOf r) ≡ true
+        → Passed (drop (i - 1) l) (set taken (r .row) true) (Id (r .«transaction_id»))
     passed-next d h g f o =
         let b : r .row < rows = row-below r g in
-        let v : Formed rows mark rs = formed-exactly rows mark rs .0 (w .good) in
-        let n : length (r ∷ rs) ≤ rows = rw e at h in
-        let s : ascending (keysOf (r ∷ rs)) ≡ true = ascending-after r rs ∙ and-eq-true-iff (isAfter (nextOf rs) (keyOf r)) (ascending (keysOf rs)) .1 (sym after-says ∙ o, ascending-exactly (keysOf rs) .1 (v .order)) in
+        let v : Formed rows mark (drop i l) = formed-exactly rows mark (drop i l) .0 (w .good) in
+        let k : length (drop (i - 1) l) ≡ length (r ∷ drop i l) = ap length e in
+        let n : length (r ∷ drop i l) ≤ rows = omega (arith, length-drop (i - 1) l) in
+        let x : isAfter (nextOf (drop i l)) (keyOf r) ≡ true = sym after-says ∙ o in
+        let y : ascending (keysOf (drop i l)) ≡ true = ascending-exactly (keysOf (drop i l)) .1 (v .order) in
+        let s : ascending (keysOf (r ∷ drop i l)) ≡ true = ascending-after r (drop i l) ∙ and-eq-true-iff _ _ .1 (x, y) in
         record {
-          good = ap (formed rows mark) e ∙ formed-exactly rows mark (r ∷ rs) .1 record {
+          good = ap (formed rows mark) e ∙ formed-exactly rows mark (r ∷ drop i l) .1 record {
             count = n;
-            order = ascending-exactly (keysOf (r ∷ rs)) .0 s;
+            order = ascending-exactly (keysOf (r ∷ drop i l)) .0 s;
             apart = (λ a. apart (sym a ∙ (sym (flag-says d b) ∙ f)), v .apart);
             within = (within-limits rows mark r .0 g, v .within);
           };
-          flagged = mark-taken rows taken rs rs′ r (w .flagged) e b;
+          flagged = mark-taken rows taken (drop i l) (drop (i - 1) l) r (w .flagged) e b;
           first = ap nextOf (sym e);
         }

@@ -9,7 +9,7 @@ use Rattle.requests.specs.Search.{rowsOf}
 use Rattle.records.specs.Live.{live}
 use Rattle.records.proofs.Live.{live-end}
 use Rattle.formed.specs.Flags.{flags}
-use Rattle.formed.proofs.Down.{loaded-down, flagged-none, mark-taken, mark-nothing, all-flags, free-flag}
+use Rattle.formed.proofs.Loaded.{loaded-down, flagged-none, mark-taken, mark-nothing, all-flags, free-flag}
 use Rattle.formed.proofs.free_row.Statement.{statement}
 use Rattle.formed.proofs.free_row.Tie as tie
 

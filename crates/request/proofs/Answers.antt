@@ -1,14 +1,16 @@
 -- What the answers say, by tests of the record: nothing above has to take `transmitOf` or `pollOf` apart.
 --     goes-exactly, after-exactly    when a request goes out, and the record after `poll_transmit`
 --     ends-exactly, wait-clock       when `poll` reports a request, and the clock to wait for otherwise
+--     counted-exactly                what is counted then
 use mathlib.Core.Path.{_≡_, refl}
 use mathlib.Core.Bool.{Bool, true, false, cond, not, _&&_, _||_}
 use Prim.Native.Nat.{ℕ, max}
 use native.Mathlib.Omega.{arith}
 use Rattle.waits.specs.declared.Transport.{Transport}
+use Rattle.stats.specs.declared.Event.the-variants as event
 use Rattle.request.specs.Times.{passedAll, isDue, isOver, momentOf}
 use Rattle.request.specs.Request.{stepped, transmitOf, pollOf}
-use Rattle.request.specs.Answers.{goesOut, recordAfter, ends, waitClock}
+use Rattle.request.specs.Answers.{goesOut, recordAfter, ends, waitClock, countedAs}
 use Rattle.request.specs.declared.StunRequestState.{StunRequestState}
 use Rattle.request.specs.declared.StunRequestPollRet.the-variants.{WaitUntil, Cancelled, TimedOut}
 use Rattle.request.specs.declared.StunRequestTransmit.the-variants.{Rests, Passes, Goes}
@@ -59,3 +61,16 @@ module _ (t : Transport) (now : ℕ) (r : StunRequestState) where
       go false true out m e = absurd (apart e)
       go false false true m e = absurd (apart e)
       go false false false m e = refl
+
+  pub counted-exactly : countedAs (pollOf t now r)
+      ≡ cond (r .«recv_cancelled») event.Cancelled
+      (cond (isOver t now r) event.TimedOut (cond (r .«send_cancelled» && passedAll t r) event.Cancelled event.Nothing))
+  unfolding pollOf
+  counted-exactly = go (r .«recv_cancelled») (isOver t now r) (r .«send_cancelled» && passedAll t r) (max now (momentOf t now r))
+    where
+      go : (recv over out : Bool) (m : ℕ) → countedAs (cond recv Cancelled (cond over TimedOut (cond out Cancelled (WaitUntil m))))
+          ≡ cond recv event.Cancelled (cond over event.TimedOut (cond out event.Cancelled event.Nothing))
+      go true over out m = refl
+      go false true out m = refl
+      go false false true m = refl
+      go false false false m = refl

@@ -25,7 +25,8 @@ unfolding transmitOf isDue stepped newRequest submitted
 submitted-goes t now id integrity row len to rto = refl
 
 -- So the first `poll_transmit` of a new request has one answer.
-module _ (t : Transport) (now : ℕ) (id : TransactionId) (integrity : Integrity) (row len : ℕ) (to : Address) (rto : RequestRto) (r : StunRequestState) {a : StunRequestTransmit} (new : r ≡ newRequest id integrity row len to rto) (answer : a ≡ transmitOf t now r) where
+module _ (t : Transport) (now : ℕ) (id : TransactionId) (integrity : Integrity) (row len : ℕ) (to : Address) (rto : RequestRto)
+    (r : StunRequestState) {a : StunRequestTransmit} (new : r ≡ newRequest id integrity row len to rto) (answer : a ≡ transmitOf t now r) where
   goes : a ≡ Goes (submitted now id integrity row len to rto)
   goes = answer ∙ ap (transmitOf t now) new ∙ submitted-goes t now id integrity row len to rto
 

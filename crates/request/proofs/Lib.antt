@@ -1,6 +1,5 @@
 -- Laws about the definitions of specs/. `Next` serves this crate's proofs.
 mod Next
-mod Specimens
 pub mod Answers
 pub mod Steps
 pub mod Kept

@@ -1,13 +1,11 @@
 -- What the code learns on its way through `next_send_time`, `poll`, `poll_transmit` and `round_trip`: a law for each branch.
 use mathlib.Core.Path.{_≡_, refl, sym, ap, _∙_}
-use mathlib.Core.Bool.{Bool, true, false, cond, not, _&&_, and-false}
+use mathlib.Core.Bool.{Bool, true, false, cond, _&&_, and-false}
 use Prim.Native.Nat.{ℕ, _+_, _-_, _≤_, _<_, max}
 use native.Mathlib.Omega.{arith}
-use lib.Dec.{leb, eqb}
-use borrow.Author.Tests.{le-leb, lt-leb, leb-true, leb-false, eq-eqb, ne-eqb}
+use borrow.Author.Tests.{le-leb, lt-leb, leb-false, eq-eqb, ne-eqb}
 use Rattle.waits.specs.Waits.{waitOf, finalWait}
 use Rattle.waits.specs.declared.Transport.{Transport}
-use Rattle.stats.specs.declared.Rtt.{Rtt}
 use Rattle.stats.specs.declared.Rtt.the-variants.{Absent, Nanos}
 use Rattle.request.specs.Times.{passedAll, dueOf, endOf, dueBy, isDue, overBy, isOver, momentBy, momentOf, nextOf, rttBy, rttOf}
 use Rattle.request.specs.Request.{stepped, transmitOf, pollOf}
@@ -16,9 +14,7 @@ use Rattle.request.specs.declared.SendTimes.the-variants.{Never, Sent}
 use Rattle.request.specs.declared.StunRequestState.{StunRequestState}
 use Rattle.request.specs.declared.NextSend.{NextSend}
 use Rattle.request.specs.declared.NextSend.the-variants.{At, Ended}
-use Rattle.request.specs.declared.StunRequestPollRet.{StunRequestPollRet}
 use Rattle.request.specs.declared.StunRequestPollRet.the-variants.{WaitUntil, Cancelled, TimedOut}
-use Rattle.request.specs.declared.StunRequestTransmit.{StunRequestTransmit}
 use Rattle.request.specs.declared.StunRequestTransmit.the-variants.{Rests, Passes, Goes}
 
 abbrev nextBy : Transport → ℕ → StunRequestState → SendTimes → NextSend

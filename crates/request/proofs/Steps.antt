@@ -1,5 +1,5 @@
 -- What `stepped` makes of a request, by whether it was sent.
-use mathlib.Core.Path.{_≡_, sym, ap, _∙_}
+use mathlib.Core.Path.{_≡_, sym, ap}
 use Prim.Native.Nat.{ℕ, _+_}
 use Rattle.request.specs.Request.{withTimes, steppedBy, stepped}
 use Rattle.request.specs.declared.SendTimes.{SendTimes}

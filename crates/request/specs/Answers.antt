@@ -9,28 +9,31 @@ use Rattle.request.specs.declared.StunRequestPollRet.the-variants.{WaitU
 use Rattle.request.specs.declared.StunRequestTransmit.{StunRequestTransmit}
 use Rattle.request.specs.declared.StunRequestTransmit.the-variants.{Rests, Passes, Goes}
 
--- `poll_transmit`: whether the request goes out, and the record afterwards.
+-- `poll_transmit`: whether the request goes out.
 abbrev pub goesOut : StunRequestTransmit → Bool
 goesOut Rests = false
 goesOut (Passes r) = false
 goesOut (Goes r) = true
 
+-- The record afterwards.
 abbrev pub recordAfter : StunRequestState → StunRequestTransmit → StunRequestState
 recordAfter r Rests = r
 recordAfter r (Passes q) = q
 recordAfter r (Goes q) = q
 
--- `poll`: whether the request is reported and removed, the clock to wait for otherwise, and what is counted.
+-- `poll`: whether the request is reported and removed.
 abbrev pub ends : StunRequestPollRet → Bool
 ends (WaitUntil clock) = false
 ends Cancelled = true
 ends TimedOut = true
 
+-- The clock to wait for, where it isn't.
 abbrev pub waitClock : ℕ → StunRequestPollRet → ℕ
 waitClock other (WaitUntil clock) = clock
 waitClock other Cancelled = other
 waitClock other TimedOut = other
 
+-- What is counted: "Cancelled counts when poll reports it."
 abbrev pub countedAs : StunRequestPollRet → Event
 countedAs (WaitUntil clock) = event.Nothing
 countedAs Cancelled = event.Cancelled

@@ -2,6 +2,7 @@
 use mathlib.Core.Path.{_≡_}
 use Rattle.request.specs.declared.StunRequestState.{StunRequestState}
 
+-- The same request.
 pub record SameRequest (r q : StunRequestState) : Type 0 where
   pub id : q .«transaction_id» ≡ r .«transaction_id»
   pub integrity : q .«request_integrity» ≡ r .«request_integrity»

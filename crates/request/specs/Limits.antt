@@ -21,6 +21,7 @@ abbrev pub TimesLimits : ℕ → SendTimes → Type 0
 TimesLimits mark Never = Unit {0}
 TimesLimits mark (Sent first last) = (last ≤ mark) × (first ≤ last)
 
+-- The limits of a record, a field for each clause.
 pub record RequestLimits (rows mark : ℕ) (r : StunRequestState) : Type 0 where
   pub least : 20 ≤ r .len
   pub most : r .len ≤ 1024
@@ -29,11 +30,12 @@ pub record RequestLimits (rows mark : ℕ) (r : StunRequestState) : Type 0 where
   pub settings : waits.Limits (r .rto)
   pub times : TimesLimits mark (r .«send_times»)
 
--- The same as tests. Refusal 1, STATE, is given where one fails.
+-- The limits of the times as a test.
 abbrev pub timesWithin : ℕ → SendTimes → Bool
 timesWithin mark Never = true
 timesWithin mark (Sent first last) = leb last mark && leb first last
 
+-- The limits of a record as a test. Refusal 1, STATE, is given where it fails.
 unfoldable pub withinLimits : ℕ → ℕ → StunRequestState → Bool
 withinLimits rows mark r =
     leb 20 (r .len)

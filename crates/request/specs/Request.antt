@@ -30,6 +30,7 @@ begun times id integrity row len to rto = record {
   «send_times» = times;
 }
 
+-- `StunRequestState::new`.
 unfoldable pub newRequest : TransactionId → Integrity → ℕ → ℕ → Address → RequestRto → StunRequestState
 newRequest = begun Never
 
@@ -38,6 +39,7 @@ newRequest = begun Never
 unfoldable pub submitted : ℕ → TransactionId → Integrity → ℕ → ℕ → Address → RequestRto → StunRequestState
 submitted now = begun (Sent now now)
 
+-- Another count and other times, and all else as it was.
 abbrev pub withTimes : ℕ → SendTimes → StunRequestState → StunRequestState
 withTimes count times r = record {
   «transaction_id» = r .«transaction_id»;
@@ -57,6 +59,7 @@ abbrev pub steppedBy : ℕ → StunRequestState → SendTimes → StunRequestSta
 steppedBy now r Never = withTimes (r .«timeout_i») (Sent now now) r
 steppedBy now r (Sent first last) = withTimes (r .«timeout_i» + 1) (Sent first now) r
 
+-- Of a record.
 unfoldable pub stepped : ℕ → StunRequestState → StunRequestState
 stepped now r = steppedBy now r (r .«send_times»)
 
@@ -75,10 +78,11 @@ marked recv send r = record {
   «send_times» = r .«send_times»;
 }
 
--- "Cancel retransmissions", and "Cancel", which sets the mark of the first too.
+-- "Cancel retransmissions".
 unfoldable pub silenced : StunRequestState → StunRequestState
 silenced r = marked (r .«recv_cancelled») true r
 
+-- "Cancel", which sets the mark of the other too, as in the Rust.
 unfoldable pub cancelled : StunRequestState → StunRequestState
 cancelled r = marked true true r
 

@@ -29,6 +29,7 @@ abbrev pub dueBy : Transport → ℕ → StunRequestState → SendTimes → Bool
 dueBy t now r Never = true
 dueBy t now r (Sent first last) = not (passedAll t r) && leb (dueOf r last) now
 
+-- Of a record.
 unfoldable pub isDue : Transport → ℕ → StunRequestState → Bool
 isDue t now r = dueBy t now r (r .«send_times»)
 
@@ -37,6 +38,7 @@ abbrev pub overBy : Transport → ℕ → StunRequestState → SendTimes → Boo
 overBy t now r Never = false
 overBy t now r (Sent first last) = passedAll t r && leb (endOf t r last) now
 
+-- Of a record.
 unfoldable pub isOver : Transport → ℕ → StunRequestState → Bool
 isOver t now r = overBy t now r (r .«send_times»)
 
@@ -45,6 +47,7 @@ abbrev pub momentBy : Transport → ℕ → StunRequestState → SendTimes → �
 momentBy t now r Never = now
 momentBy t now r (Sent first last) = cond (passedAll t r) (endOf t r last) (dueOf r last)
 
+-- Of a record.
 unfoldable pub momentOf : Transport → ℕ → StunRequestState → ℕ
 momentOf t now r = momentBy t now r (r .«send_times»)
 
@@ -57,5 +60,6 @@ abbrev pub rttBy : ℕ → ℕ → SendTimes → Rtt
 rttBy now count Never = Absent
 rttBy now count (Sent first last) = cond (eqb count 0) (Nanos (now - last)) Absent
 
+-- Of a record.
 unfoldable pub rttOf : ℕ → StunRequestState → Rtt
 rttOf now r = rttBy now (r .«timeout_i») (r .«send_times»)

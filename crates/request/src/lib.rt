@@ -12,7 +12,7 @@ use waits::RequestRto;
 use waits::Transport;
 ghost use mathlib.Core.Path.{_≡_};
 ghost use mathlib.Core.Bool.{_&&_};
-ghost use Prim.Native.Nat.{_^_, _≤_, _<_};
+ghost use Prim.Native.Nat.{_^_, _≤_};
 ghost use Rattle.request.specs.Times.{passedAll, nextOf, rttOf};
 ghost use Rattle.request.specs.Request.{newRequest, submitted, withTimes, stepped, silenced, cancelled, configured, transmitOf, pollOf};
 ghost use Rattle.request.specs.Limits.{NewLimits, timesWithin, withinLimits, RequestLimits};

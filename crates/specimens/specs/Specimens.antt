@@ -1,10 +1,11 @@
 -- Document 01, "Specimens": what the definitions of the layers give, beside what the document says. One list for all layers: a later
 -- layer adds its specimens to it.
-use Prim.Native.Nat.{ℕ, zero, suc, _+_, _/_, _%_, _^_}
+use Prim.Native.Nat.{ℕ, zero, suc, _+_, _-_, _/_, _%_, _^_}
 use mathlib.Core.Path.{_≡_}
-use mathlib.Core.Bool.{false}
+use mathlib.Core.Bool.{true, false}
 use mathlib.Core.List.{List, [], _∷_, _++_, map}
 use lib.ListN.{take, replicate}
+use Rattle.address.specs.declared.Host.the-variants.{V4}
 use Rattle.message.specs.Attributes.{messageOf}
 use Rattle.message.specs.declared.MessageClass.{MessageClass}
 use Rattle.message.specs.declared.MessageClass.the-variants.{Request, Indication, Success, Error}
@@ -16,6 +17,10 @@ use Rattle.message.specs.declared.Parsed.the-variants.{Good, Bad}
 use Rattle.waits.specs.Waits.{milliseconds, defaultRto, withinLimits, waitsOf, waitOf, finalWait}
 use Rattle.waits.specs.declared.RequestRto.{RequestRto}
 use Rattle.waits.specs.declared.Transport.the-variants.{Udp, Tcp}
+use Rattle.request.specs.Request.{submitted, transmitOf, pollOf}
+use Rattle.request.specs.Answers.{goesOut, recordAfter}
+use Rattle.request.specs.declared.StunRequestState.{StunRequestState}
+use Rattle.request.specs.declared.StunRequestPollRet.the-variants.{WaitUntil, TimedOut}
 
 -- What a definition gives, and what document 01 says: two values of one type, whatever the type.
 pub data Specimen : Type 1 where
@@ -52,6 +57,12 @@ attribute type = type / 256 ∷ type % 256 ∷ 0 ∷ 4 ∷ 9 ∷ 9 ∷ 9 ∷ 9 �
 abbrev pub binding : MessageClass → Integrity → Parsed
 binding class integrity = Good (record { class = class; method = 1; «transaction_id» = record { hi = 0; lo = 1 }; integrity = integrity })
 
+-- A request sent at 0 with an initial wait of 500 ms, R as given, and 8,000 ms at the end.
+abbrev pub atZero : ℕ → StunRequestState
+atZero count =
+    submitted 0 (record { hi = 0; lo = 1 }) None 0 20 (record { host = V4 1; port = 3478 })
+    (settings (milliseconds 500) (2 ^ 61) count (milliseconds 8000))
+
 unfoldable pub specimens : List Specimen
 specimens =
     -- S1: the default gives 500, 1,000, 2,000, 4,000, 8,000, 16,000 ms
@@ -77,6 +88,14 @@ specimens =
     ∷ gives (messageOf []) Bad
     ∷ gives (messageOf (take 19 (bytesOf 0x0001 0 []))) Bad
     ∷ gives (messageOf (bytesOf 0x0001 2 (0 ∷ 0 ∷ []))) Bad
+    -- S9: due = now sends, end = now times out; and neither a nanosecond earlier
+    ∷ gives (goesOut (transmitOf Udp (milliseconds 500) (atZero 3))) true
+    ∷ gives (goesOut (transmitOf Udp (milliseconds 500 - 1) (atZero 3))) false
+    ∷ gives (pollOf Udp (milliseconds 8000) (atZero 1)) TimedOut
+    ∷ gives (pollOf Udp (milliseconds 8000 - 1) (atZero 1)) (WaitUntil (milliseconds 8000))
+    -- S10: sent at 0, 500 ms, R = 3, next call at 700 ms: sent, then due at 1,700 ms
+    ∷ gives (goesOut (transmitOf Udp (milliseconds 700) (atZero 3))) true
+    ∷ gives (pollOf Udp (milliseconds 700) (recordAfter (atZero 3) (transmitOf Udp (milliseconds 700) (atZero 3)))) (WaitUntil (milliseconds 1700))
     ∷ []
 
 -- Beside the document's own, some of section 14: padding may hold anything and must be there; the last integrity type counts.

@@ -1,12 +1,12 @@
--- Each answer of the queries, from what the code tested; and that the average is the floor.
-use mathlib.Core.Path.{_≡_, refl, sym}
-use mathlib.Core.Bool.{true, false}
+-- Each answer of the queries, from what the code tested; the average is the floor; refusal 12 is given exactly where the count is below zero.
+use mathlib.Core.Path.{_≡_, refl}
+use mathlib.Core.Bool.{Bool, true, false, cond}
 use Prim.Native.Nat.{ℕ, zero, suc, _+_, _-_, _*_, _/_, _≤_, _<_}
 use native.Mathlib.Nat.{le-div-iff-mul-le, div-lt-iff-lt-mul}
 use native.Mathlib.Omega.{arith}
 use lib.Dec.{leb}
-use borrow.Author.Tests.{le-leb, lt-leb}
-use Rattle.stats.specs.Query.{average, averageOf, settled, outstandingOf}
+use borrow.Author.Tests.{le-leb, lt-leb, leb-true}
+use Rattle.stats.specs.Query.{average, averageOf, settled, outstandingOf, outstandingRefusal, outstandingCount}
 use Rattle.stats.specs.declared.StunAgentStats.{StunAgentStats}
 use Rattle.stats.specs.declared.Rtt.the-variants.{Absent, Nanos}
 use Rattle.stats.specs.declared.Outstanding.the-variants.{Count, BelowZero}
@@ -36,7 +36,8 @@ module _ (s : StunAgentStats) where
       simp (le-leb _ _ fits, rest)
 
 -- The average is the floor: no more than the sum, counted as often as there are samples, and one more would pass it.
-pub average-floor : (s : StunAgentStats) (q : ℕ) → averageOf s ≡ Nanos q → (q * s .«rtt_count» ≤ s .«rtt_sum») × (s .«rtt_sum» < (q + 1) * s .«rtt_count»)
+pub average-floor : (s : StunAgentStats) (q : ℕ) → averageOf s ≡ Nanos q
+    → (q * s .«rtt_count» ≤ s .«rtt_sum») × (s .«rtt_sum» < (q + 1) * s .«rtt_count»)
 unfolding averageOf
 average-floor s q e = go (s .«rtt_sum») (s .«rtt_count») e
   where
@@ -44,5 +45,26 @@ average-floor s q e = go (s .«rtt_sum») (s .«rtt_count») e
     go sum zero e = absurd (let z : _≡_ {A = ℕ} 0 1 = cc in omega arith)
     go sum (suc n) e =
         let d : sum / suc n ≡ q = cc in
-        let some : 0 < suc n = omega arith in
-        (le-div-iff-mul-le {k = suc n} {x = q} {y = sum} some .0 (omega arith), div-lt-iff-lt-mul {k = suc n} {x = sum} {y = q + 1} some .0 (omega arith))
+        let some : 0 < suc n = omega arith in (
+          le-div-iff-mul-le {k = suc n} {x = q} {y = sum} some .0 (omega arith),
+          div-lt-iff-lt-mul {k = suc n} {x = sum} {y = q + 1} some .0 (omega arith),
+        )
+
+-- Refusal 12, COUNTS, exactly where more requests are settled than were sent; else the answer is what is left.
+module _ (s : StunAgentStats) where
+  pub refused-exactly : outstandingRefusal (outstandingOf s) ≡ cond (leb (settled s) (s .«requests_sent»)) 0 12
+  unfolding outstandingOf
+  refused-exactly = go (leb (settled s) (s .«requests_sent»)) (s .«requests_sent» - settled s)
+    where
+      go : (b : Bool) (n : ℕ) → outstandingRefusal (cond b (Count n) BelowZero) ≡ cond b 0 12
+      go true n = refl
+      go false n = refl
+
+  pub left-exactly : outstandingRefusal (outstandingOf s) ≡ 0 → settled s + outstandingCount (outstandingOf s) ≡ s .«requests_sent»
+  unfolding outstandingOf
+  left-exactly e = go (leb (settled s) (s .«requests_sent»)) refl e
+    where
+      go : (b : Bool) → leb (settled s) (s .«requests_sent») ≡ b → outstandingRefusal (cond b (Count (s .«requests_sent» - settled s)) BelowZero) ≡ 0
+          → settled s + outstandingCount (cond b (Count (s .«requests_sent» - settled s)) BelowZero) ≡ s .«requests_sent»
+      go true h e = omega (arith, leb-true (settled s) (s .«requests_sent») h)
+      go false h e = absurd (omega arith)

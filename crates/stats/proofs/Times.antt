@@ -1,9 +1,9 @@
 -- From a zeroed record, below the stops, minimum ≤ average ≤ maximum is kept by every event.
 use mathlib.Core.Path.{_≡_, refl}
-use Prim.Native.Nat.{ℕ, zero, suc, _+_, _-_, _*_, _/_, _^_, _≤_, _<_, min, max}
+use Prim.Native.Nat.{ℕ, zero, suc, _+_, _-_, _*_, _^_, _≤_, _<_, min, max}
 use native.Mathlib.Nat.{mul-le-mul-right, le-div-iff-mul-le, div-le-of-le-mul, mul-comm, mul-add, mul-one}
 use native.Mathlib.Omega.{arith}
-use Rattle.stats.specs.Count.{plus, lesser, greater, zeroed, sampled, counted}
+use Rattle.stats.specs.Count.{plus, lesser, greater, counted, zeroed}
 use Rattle.stats.specs.Query.{average, averageOf}
 use Rattle.stats.specs.Laws.{BelowStops, Between, Spread, Ordered}
 use Rattle.stats.specs.declared.StunAgentStats.{StunAgentStats}

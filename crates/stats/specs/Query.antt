@@ -13,6 +13,7 @@ abbrev pub average : ℕ → ℕ → Rtt
 average sum zero = Absent
 average sum (suc n) = Nanos (sum / suc n)
 
+-- Of a record.
 unfoldable pub averageOf : StunAgentStats → Rtt
 averageOf s = average (s .«rtt_sum») (s .«rtt_count»)
 
@@ -24,11 +25,12 @@ settled s = s .«responses_received» + s .«transactions_timed_out» + s .«tra
 unfoldable pub outstandingOf : StunAgentStats → Outstanding
 outstandingOf s = cond (leb (settled s) (s .«requests_sent»)) (Count (s .«requests_sent» - settled s)) BelowZero
 
--- The refusal number of each answer, 0 for none, and the count that it gives.
+-- The refusal number of each answer, 0 for none.
 abbrev pub outstandingRefusal : Outstanding → ℕ
 outstandingRefusal (Count n) = 0
 outstandingRefusal BelowZero = 12
 
+-- The count that it gives.
 abbrev pub outstandingCount : Outstanding → ℕ
 outstandingCount (Count n) = n
 outstandingCount BelowZero = 0

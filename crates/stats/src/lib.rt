@@ -6,7 +6,7 @@
 // `Option<Duration>` is an `Rtt`. Every number stays at 2^64 - 1 where the Rust's would pass it.
 ghost use mathlib.Core.Path.{_≡_};
 ghost use Prim.Native.Nat.{min, max};
-ghost use Rattle.stats.specs.Count.{plus, lesser, greater, zeroed, requestSent, requestReceived, responseSent, responseReceived, indicationSent, indicationReceived, bytesSent, timedOut, cancelled, sampled, sampledBy, counted};
+ghost use Rattle.stats.specs.Count.{plus, lesser, greater, timesOf, timed, timedBy, withTimes, counted, zeroed};
 ghost use Rattle.stats.specs.Query.{averageOf, outstandingOf};
 
 // A time that may be absent.
@@ -145,7 +145,7 @@ impl StunAgentStats {
     }
 
     fn record_request_sent(mut self, bytes: u64) -> Self
-        ensures { λ r. ⌜ r ≡ requestSent bytes self ⌝ }
+        ensures { λ r. ⌜ r ≡ counted (Event.RequestSent bytes) self ⌝ }
     {
         self.requests_sent = add(self.requests_sent, 1);
         self.bytes_sent = add(self.bytes_sent, bytes);
@@ -153,7 +153,7 @@ impl StunAgentStats {
     }
 
     fn record_request_received(mut self, bytes: u64) -> Self
-        ensures { λ r. ⌜ r ≡ requestReceived bytes self ⌝ }
+        ensures { λ r. ⌜ r ≡ counted (Event.RequestReceived bytes) self ⌝ }
     {
         self.requests_received = add(self.requests_received, 1);
         self.bytes_received = add(self.bytes_received, bytes);
@@ -161,7 +161,7 @@ impl StunAgentStats {
     }
 
     fn record_indication_sent(mut self, bytes: u64) -> Self
-        ensures { λ r. ⌜ r ≡ indicationSent bytes self ⌝ }
+        ensures { λ r. ⌜ r ≡ counted (Event.IndicationSent bytes) self ⌝ }
     {
         self.indications_sent = add(self.indications_sent, 1);
         self.bytes_sent = add(self.bytes_sent, bytes);
@@ -169,7 +169,7 @@ impl StunAgentStats {
     }
 
     fn record_indication_received(mut self, bytes: u64) -> Self
-        ensures { λ r. ⌜ r ≡ indicationReceived bytes self ⌝ }
+        ensures { λ r. ⌜ r ≡ counted (Event.IndicationReceived bytes) self ⌝ }
     {
         self.indications_received = add(self.indications_received, 1);
         self.bytes_received = add(self.bytes_received, bytes);
@@ -177,7 +177,7 @@ impl StunAgentStats {
     }
 
     fn record_response_sent(mut self, bytes: u64) -> Self
-        ensures { λ r. ⌜ r ≡ responseSent bytes self ⌝ }
+        ensures { λ r. ⌜ r ≡ counted (Event.ResponseSent bytes) self ⌝ }
     {
         self.responses_sent = add(self.responses_sent, 1);
         self.bytes_sent = add(self.bytes_sent, bytes);
@@ -185,7 +185,7 @@ impl StunAgentStats {
     }
 
     fn record_response_received(mut self, bytes: u64) -> Self
-        ensures { λ r. ⌜ r ≡ responseReceived bytes self ⌝ }
+        ensures { λ r. ⌜ r ≡ counted (Event.ResponseReceived bytes Rtt.Absent) self ⌝ }
     {
         self.responses_received = add(self.responses_received, 1);
         self.bytes_received = add(self.bytes_received, bytes);
@@ -193,21 +193,21 @@ impl StunAgentStats {
     }
 
     fn record_retransmit_bytes(mut self, bytes: u64) -> Self
-        ensures { λ r. ⌜ r ≡ bytesSent bytes self ⌝ }
+        ensures { λ r. ⌜ r ≡ counted (Event.RetransmitBytes bytes) self ⌝ }
     {
         self.bytes_sent = add(self.bytes_sent, bytes);
         self
     }
 
     fn record_timeout(mut self) -> Self
-        ensures { λ r. ⌜ r ≡ timedOut self ⌝ }
+        ensures { λ r. ⌜ r ≡ counted Event.TimedOut self ⌝ }
     {
         self.transactions_timed_out = add(self.transactions_timed_out, 1);
         self
     }
 
     fn record_cancelled(mut self) -> Self
-        ensures { λ r. ⌜ r ≡ cancelled self ⌝ }
+        ensures { λ r. ⌜ r ≡ counted Event.Cancelled self ⌝ }
     {
         self.transactions_cancelled = add(self.transactions_cancelled, 1);
         self
@@ -215,7 +215,7 @@ impl StunAgentStats {
 
     // A field that is an enum can't be stored to, so the record is written anew.
     fn record_rtt(self, rtt: u64) -> Self
-        ensures { λ r. ⌜ r ≡ sampled rtt self ⌝ }
+        ensures { λ r. ⌜ r ≡ withTimes (timed rtt (timesOf self)) self ⌝ }
     {
         let before = self.rtt_min;
         let least = min_rtt(before, rtt);
@@ -241,7 +241,7 @@ impl StunAgentStats {
 
     // The agent's `if let Some(rtt)`.
     fn record_rtt_if_any(self, rtt: Rtt) -> Self
-        ensures { λ r. ⌜ r ≡ sampledBy rtt self ⌝ }
+        ensures { λ r. ⌜ r ≡ withTimes (timedBy rtt (timesOf self)) self ⌝ }
     {
         match rtt {
             Rtt::Absent => self,

@@ -5,14 +5,13 @@
 --     length-copied, length-part    the lengths
 use mathlib.Core.Path.{_≡_, refl, sym, ap, _∙_}
 use mathlib.Core.Logic.{_⊎_, inl, inr, ⊎-elim}
-use mathlib.Core.Bool.{Bool, true, false, cond, _&&_, and-eq-true-iff}
+use mathlib.Core.Bool.{Bool, true, false, cond, and-eq-true-iff}
 use mathlib.Core.List.{List, [], _∷_, _++_, append-assoc}
 use Prim.Native.Nat.{ℕ, zero, suc, _+_, _-_, _*_, _≤_, _<_}
 use native.Mathlib.Decide.{decLe}
 use native.Mathlib.Omega.{arith}
 use lib.ListN.{length, take, drop, length-append, length-drop}
 use lib.Seq.{take-nil, take-take, take-at, drop-at, drop-drop, length-take-le}
-use lib.Dec.{ltb, leb}
 use borrow.Author.Tests.{lt-ltb, le-leb, ltb-true, leb-true}
 use Rattle.store.specs.Rows.{inStore, stored, copied, partOf}
 

@@ -37,12 +37,14 @@ add-next-send c =
 returns-2 : tie.Need-returns-2
 returns-2 c =
     let p = c .before .before in
-    next-end _ _ _ _ _ (p .before .before .before .before .times .given .1) _ (c .before .last-retransmit-timeout .ensures) (sym (p .before .all-passed .ensures) ∙ p .if1 .taken) (omega arith)
+    next-end _ _ _ _ _ (p .before .before .before .before .times .given .1) _ (c .before .last-retransmit-timeout .ensures)
+    (sym (p .before .all-passed .ensures) ∙ p .if1 .taken) (omega arith)
 
 returns-3 : tie.Need-returns-3
 returns-3 c =
     let p = c .before .before in
-    next-ended _ _ _ _ _ (p .before .before .before .before .times .given .1) _ (c .before .last-retransmit-timeout .ensures) (sym (p .before .all-passed .ensures) ∙ p .if1 .taken) (omega arith)
+    next-ended _ _ _ _ _ (p .before .before .before .before .times .given .1) _ (c .before .last-retransmit-timeout .ensures)
+    (sym (p .before .all-passed .ensures) ∙ p .if1 .taken) (omega arith)
 
 timeout-requires : tie.Need-timeout-requires
 timeout-requires c κs =

@@ -1,5 +1,5 @@
 -- `StunRequestState::poll` meets its contract: a law for each return, from what `next_send_time` answered. Assumes nothing.
-use mathlib.Core.Path.{_≡_, sym, _∙_}
+use mathlib.Core.Path.{sym, _∙_}
 use native.Mathlib.Omega.{arith}
 use Rattle.request.proofs.Next.{over, not-over, moment, poll-cancelled, poll-over, poll-silenced, poll-waits, poll-late}
 use borrow.Author.Needs.{needs}

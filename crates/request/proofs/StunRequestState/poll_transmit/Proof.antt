@@ -1,5 +1,5 @@
 -- `StunRequestState::poll_transmit` meets its contract: a law for each return, from what `next_send_time` answered. Assumes nothing.
-use mathlib.Core.Path.{_≡_, sym, _∙_}
+use mathlib.Core.Path.{sym, _∙_}
 use native.Mathlib.Omega.{arith}
 use Rattle.request.proofs.Next.{over, not-over, moment, due, not-due, over-not-due, transmit-cancelled, transmit-rests, transmit-passes, transmit-goes}
 use borrow.Author.Needs.{needs}

@@ -1,7 +1,10 @@
 -- `StunAgentStats::after` meets its contract: each arm cites its method, at the variant that the arm knows. Assumes nothing.
-use mathlib.Core.Path.{refl, ap, _∙_}
-use Rattle.stats.specs.Count.{counted, responseReceived}
-use Rattle.stats.proofs.Arms.{of-event}
+use mathlib.Core.Path.{ap, _∙_}
+use Rattle.stats.specs.Count.{counted}
+use Rattle.stats.specs.declared.Rtt.the-variants.{Absent}
+use Rattle.stats.specs.declared.Event.the-variants.{ResponseReceived}
+use Rattle.stats.proofs.Arms.{of-event, response}
+use Rattle.stats.proofs.Fields.{nothing, reset}
 use borrow.Author.Needs.{needs}
 use Rattle.stats.proofs.StunAgentStats.after.Statement.{statement}
 use Rattle.stats.proofs.StunAgentStats.after.Tie as tie
@@ -73,48 +76,41 @@ default-requires : tie.Need-default-requires
 default-requires c κs = search needs
 
 returns : tie.Need-returns
-unfolding counted
-returns c = of-event _ (c .enum-told .given .1) refl
+returns c = of-event _ (c .enum-told .given .1) (nothing _)
 
 returns-2 : tie.Need-returns-2
-unfolding counted
 returns-2 c = of-event _ (c .before .before .event .given .1) (c .record-request-sent .ensures)
 
 returns-3 : tie.Need-returns-3
-unfolding counted
 returns-3 c = of-event _ (c .before .before .event2 .given .1) (c .record-request-received .ensures)
 
 returns-4 : tie.Need-returns-4
-unfolding counted
 returns-4 c = of-event _ (c .before .before .event3 .given .1) (c .record-indication-sent .ensures)
 
 returns-5 : tie.Need-returns-5
-unfolding counted
 returns-5 c = of-event _ (c .before .before .event4 .given .1) (c .record-indication-received .ensures)
 
 returns-6 : tie.Need-returns-6
-unfolding counted
 returns-6 c = of-event _ (c .before .before .event5 .given .1) (c .record-response-sent .ensures)
 
 returns-7 : tie.Need-returns-7
-unfolding counted
-returns-7 c = of-event _ (c .before .before .before .event6 .given .1) (c .record-response-received .ensures ∙ ap (responseReceived _) (c .before .record-rtt-if-any .ensures))
+returns-7 c =
+    of-event _ (c .before .before .before .event6 .given .1)
+    (c .record-response-received .ensures
+    ∙ ap (counted (ResponseReceived _ Absent)) (c .before .record-rtt-if-any .ensures)
+    ∙ response _ _ _)
 
 returns-8 : tie.Need-returns-8
-unfolding counted
 returns-8 c = of-event _ (c .before .before .event7 .given .1) (c .record-retransmit-bytes .ensures)
 
 returns-9 : tie.Need-returns-9
-unfolding counted
 returns-9 c = of-event _ (c .before .enum-told2 .given .1) (c .record-timeout .ensures)
 
 returns-10 : tie.Need-returns-10
-unfolding counted
 returns-10 c = of-event _ (c .before .enum-told3 .given .1) (c .record-cancelled .ensures)
 
 returns-11 : tie.Need-returns-11
-unfolding counted
-returns-11 c = of-event _ (c .before .enum-told4 .given .1) (c .default .ensures)
+returns-11 c = of-event _ (c .before .enum-told4 .given .1) (c .default .ensures ∙ reset _)
 
 pub after-spec : {M : Type 1} → statement M
 after-spec =

@@ -1,5 +1,6 @@
 -- `StunAgentStats::record_cancelled` meets its contract: what each call ensures, by congruence. Assumes nothing.
 use borrow.Author.Needs.{needs}
+use Rattle.stats.specs.Count.{counted}
 use Rattle.stats.proofs.StunAgentStats.record_cancelled.Statement.{statement}
 use Rattle.stats.proofs.StunAgentStats.record_cancelled.Tie as tie
 
@@ -7,6 +8,7 @@ add-requires : tie.Need-add-requires
 add-requires c κs = search needs
 
 returns : tie.Need-returns
+unfolding counted
 returns c = cc
 
 pub record-cancelled-spec : {M : Type 1} → statement M

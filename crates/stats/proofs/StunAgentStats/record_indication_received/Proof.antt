@@ -1,5 +1,6 @@
 -- `StunAgentStats::record_indication_received` meets its contract: what each call ensures, by congruence. Assumes nothing.
 use borrow.Author.Needs.{needs}
+use Rattle.stats.specs.Count.{counted}
 use Rattle.stats.proofs.StunAgentStats.record_indication_received.Statement.{statement}
 use Rattle.stats.proofs.StunAgentStats.record_indication_received.Tie as tie
 
@@ -10,6 +11,7 @@ add-requires-2 : tie.Need-add-requires-2
 add-requires-2 c κs = search needs
 
 returns : tie.Need-returns
+unfolding counted
 returns c = cc
 
 pub record-indication-received-spec : {M : Type 1} → statement M

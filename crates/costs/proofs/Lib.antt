@@ -1,0 +1,2 @@
+-- What the test of a table gives to the calls behind it.
+mod Tested

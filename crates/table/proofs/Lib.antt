@@ -1,0 +1,3 @@
+-- Laws that the table's functions cite, one for each way through a turn of a loop.
+mod Turns
+mod Scans

@@ -1,0 +1,146 @@
+//! A run: traces of some families over a range of seeds, judged, counted and compared.
+
+use crate::program::TIME_LIMIT;
+use crate::shrink::shrink;
+use crate::{Difference, Program, Tally};
+use generate::Family;
+use oracle::{judge, Judge, Judged};
+use records::lines;
+use std::ops::Range;
+use std::time::Instant;
+
+/// What to run.
+pub struct Run {
+    pub families: Vec<Family>,
+    pub seeds: Range<u64>,
+    /// None to compare the oracle and the second reading alone.
+    pub program: Option<Program>,
+    /// How many traces the program gets as one. Kind 1 makes a fresh agent anywhere, so traces can be
+    /// played one behind another, unless one ends the replay by a broken record.
+    pub join: usize,
+}
+
+/// A trace with what its lines should be.
+struct Case {
+    origin: String,
+    trace: Vec<u8>,
+    judged: Vec<Judged>,
+}
+
+impl Run {
+    /// Plays all traces; stops at the first difference, made as short as it gets.
+    pub fn go(&self) -> (Tally, Result<(), Difference>) {
+        let mut tally = Tally::default();
+        let outcome = self.play_all(&mut tally);
+        (tally, outcome)
+    }
+
+    fn play_all(&self, tally: &mut Tally) -> Result<(), Difference> {
+        let mut waiting = Vec::new();
+        for &family in &self.families {
+            for seed in self.seeds.clone() {
+                let case = judged_case(family, seed)?;
+                tally.count(family, &case.trace, &case.judged);
+                if ends_replay(&case) {
+                    self.compare(std::slice::from_ref(&case))?;
+                    continue;
+                }
+                waiting.push(case);
+                if waiting.len() >= self.join {
+                    self.compare(&waiting)?;
+                    waiting.clear();
+                }
+            }
+        }
+        self.compare(&waiting)
+    }
+
+    /// Compares the program's lines on these traces, played as one.
+    fn compare(&self, cases: &[Case]) -> Result<(), Difference> {
+        let Some(program) = &self.program else { return Ok(()) };
+        let joined: Vec<u8> = cases.iter().flat_map(|case| case.trace.clone()).collect();
+        let expected = lines(cases.iter().flat_map(|case| case.judged.iter().map(|line| &line.answer)));
+        let start = Instant::now();
+        match program.lines(&joined) {
+            Ok(found) if found == expected => Ok(()),
+            // What made it run out of its time isn't shortened: each try would take as long.
+            Err(what) if start.elapsed() >= TIME_LIMIT => {
+                Err(Difference { origin: origin(cases), what, trace: joined, expected, found: String::new() })
+            }
+            _ => Err(shortened(program, cases, &joined)),
+        }
+    }
+}
+
+/// The difference in one of these traces, or in all as one, made as short as it gets.
+fn shortened(program: &Program, cases: &[Case], joined: &[u8]) -> Difference {
+    let shows = |trace: &[u8]| fault(program, trace).is_some();
+    let alone = cases.iter().find(|case| shows(&case.trace));
+    let trace = shrink(alone.map_or(joined, |case| &case.trace), &shows);
+    Difference {
+        origin: origin(alone.map_or(cases, std::slice::from_ref)),
+        what: fault(program, &trace).unwrap_or_else(|| "the program's lines change from run to run".to_owned()),
+        expected: judge(&trace).map_or_else(|parted| parted.to_string(), |judged| text(&judged)),
+        found: program.lines(&trace).unwrap_or_else(|fault| fault),
+        trace,
+    }
+}
+
+/// Where these traces come from.
+fn origin(cases: &[Case]) -> String {
+    match cases {
+        [] => "no trace".to_owned(),
+        [only] => only.origin.clone(),
+        [first, .., last] => format!("{} to {}, played as one", first.origin, last.origin),
+    }
+}
+
+fn text(judged: &[Judged]) -> String {
+    lines(judged.iter().map(|line| &line.answer))
+}
+
+/// Whether nothing can be played behind this trace.
+fn ends_replay(case: &Case) -> bool {
+    let mut replay = reading::Replay::new(&case.trace);
+    let last = replay.by_ref().last();
+    replay.agent().is_none() || last.is_none_or(|turn| turn.record.is_none())
+}
+
+/// What the program does wrong on a trace, if the oracle can judge it at all.
+fn fault(program: &Program, trace: &[u8]) -> Option<String> {
+    let expected = text(&judge(trace).ok()?);
+    match program.lines(trace) {
+        Err(fault) => Some(fault),
+        Ok(found) if found == expected => None,
+        Ok(found) => Some(format!("line {} differs", first_difference(&expected, &found))),
+    }
+}
+
+fn first_difference(expected: &str, found: &str) -> usize {
+    1 + expected.split('\n').zip(found.split('\n')).take_while(|(one, other)| one == other).count()
+}
+
+/// The trace of this seed with its judged lines; the oracle's two sides must agree on it.
+fn judged_case(family: Family, seed: u64) -> Result<Case, Difference> {
+    let origin = format!("{} {seed}", family.name());
+    let trace = family.trace(seed);
+    match judge(&trace) {
+        Err(_) => {
+            let least = shrink(&trace, &|trace| judge(trace).is_err());
+            let parted = judge(&least).expect_err("shrinking keeps the disagreement");
+            Err(Difference {
+                origin,
+                what: parted.to_string(),
+                expected: lines(&reading::replay(&least)),
+                found: parted.to_string(),
+                trace: least,
+            })
+        }
+        Ok(judged) if family != Family::Outside && judged.iter().any(|line| line.judge == Judge::Reading) => {
+            let expected = text(&judged);
+            let what = "the generator left the domain".to_owned();
+            Err(Difference { origin, what, trace, found: String::new(), expected })
+        }
+        Ok(judged) => Ok(Case { origin, trace, judged }),
+    }
+}

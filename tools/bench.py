@@ -1,0 +1,37 @@
+"""What the commands of the test bench share: where the host's programs stand and how they are built."""
+import os
+import pathlib
+import shutil
+import subprocess
+import sys
+
+ROOT = pathlib.Path(__file__).resolve().parent.parent
+HOST = ROOT / "host"
+RECORDED = ROOT / "traces" / "recorded"
+
+
+def cargo_build(*arguments, folder=HOST, **environment):
+    """Builds in a cargo workspace, offline; ends the command where that fails."""
+    if not shutil.which("cargo"):
+        sys.exit("cargo isn't here: the host's programs can't be built")
+    command = ["cargo", "build", "--offline", "--quiet", *arguments]
+    everything = {**os.environ, **environment}
+    if "STUN_PROTO_SRC" in everything:  # as the caller means it, not as seen from a package's folder
+        everything["STUN_PROTO_SRC"] = os.path.abspath(everything["STUN_PROTO_SRC"])
+    if subprocess.run(command, cwd=folder, env=everything).returncode:
+        sys.exit(f"{' '.join(command)} failed")
+
+
+def host_program(name):
+    """The path of one of the host's programs, built afresh where something changed."""
+    cargo_build("--release", "--package", name)
+    return HOST / "target" / "release" / name
+
+
+def run_program(words, trace):
+    """The lines of a program that takes a trace on standard input; None where it fails or takes a minute."""
+    try:
+        done = subprocess.run(words, input=trace, stdout=subprocess.PIPE, timeout=60)
+    except subprocess.TimeoutExpired:
+        return None
+    return done.stdout.decode(errors="replace") if done.returncode == 0 else None

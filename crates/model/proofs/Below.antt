@@ -2,7 +2,6 @@
 --     good-length       a message that isn't bad has its head's twenty bytes
 --     Submission, submission    the fields of a request as submitted
 --     default-limits, timed-out-exactly    the default settings are within limits; when a request with all steps passed has timed out
---     nothing-counted    no event leaves the record as it was
 --     byte-kept         a copy to a row's start changes no byte outside of it
 use Prim.Native.Nat.{ℕ, _+_, _-_, _*_, _≤_, _<_, max}
 use mathlib.Core.Path.{_≡_, refl, sym, ap, _∙_}
@@ -27,9 +26,6 @@ use Rattle.message.specs.declared.Parsed.the-variants.{Good}
 use Rattle.waits.specs.Waits as waits
 use Rattle.waits.specs.declared.RequestRto.{RequestRto}
 use Rattle.waits.specs.declared.Transport.{Transport}
-use Rattle.stats.specs.Count.{counted}
-use Rattle.stats.specs.declared.StunAgentStats.{StunAgentStats}
-use Rattle.stats.specs.declared.Event.the-variants.{Nothing}
 use Rattle.store.specs.Rows.{inStore, stored, copied}
 use Rattle.store.proofs.Rows.{is-part}
 use Rattle.request.specs.Times.{passedAll, endOf, overBy, isOver, momentOf}
@@ -110,12 +106,6 @@ module _ (t : Transport) (now : ℕ) (r : StunRequestState) (first last : ℕ) (
         λ z. absurd (let y : _≡_ {A = ℕ} 0 1 = cc in omega arith),
         λ h. absurd (omega (arith, leb-false (last + waits.finalWait t (r .rto)) now (sym e))),
       )
-
--- ---- the statistics
-
-pub nothing-counted : (s : StunAgentStats) → counted Nothing s ≡ s
-unfolding counted
-nothing-counted s = refl
 
 -- ---- the store, byte by byte
 

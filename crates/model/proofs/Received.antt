@@ -23,6 +23,7 @@ use Rattle.message.specs.declared.Parsed.the-variants.{Good}
 use Rattle.stats.specs.Count.{counted}
 use Rattle.stats.specs.declared.Event.{Event}
 use Rattle.stats.specs.declared.Event.the-variants as event
+use Rattle.stats.proofs.Fields.{nothing}
 use Rattle.request.specs.declared.StunRequestState.{StunRequestState}
 use Rattle.requests.specs.Search.{lookup, requestOf}
 use Rattle.requests.specs.declared.Found.the-variants.{At, Nothing}
@@ -35,7 +36,6 @@ use Rattle.model.specs.Refusals.{refusalOf}
 use Rattle.model.specs.Effects.{Change, keeps, removes, changed, changeOf, answerOf, eventOf, markAfter, peersAfter, peerCount, afterBy, after}
 use Rattle.model.specs.Says.{Said, saysOf}
 use Rattle.model.specs.declared.Answer.the-variants as answer
-use Rattle.model.proofs.Below.{nothing-counted}
 use Rattle.model.proofs.Refused.{passed-exactly, refused-same, passed-does}
 use Rattle.model.proofs.Changes.{peer-fits}
 use Rattle.model.proofs.Peers.{peer-joined, peers-same}
@@ -100,7 +100,7 @@ module _ (rows : ℕ) (w : World) (from : Address) (clock : Option ℕ) (m : Lis
           requests = w .requests;
           store = w .store;
           peers = peers-same w heard m no-peer .0 i;
-          stats = (ap (λ (v : Event). counted v (w .stats)) no-event ∙ nothing-counted (w .stats)) i;
+          stats = (ap (λ (v : Event). counted v (w .stats)) no-event ∙ sym (nothing (w .stats))) i;
         })
 
     -- "If not outstanding: not accepted, only the clock mark moves."

@@ -58,21 +58,18 @@ marked mark w = record {
 }
 
 module _ (rows : ℕ) (w : World) (from : Address) (clock : Option ℕ) (m : List ℕ) (x : Message) (reads : messageOf m ≡ Good x) where
-  abbrev heard : Kind
-  heard = carries (receives from clock)
-
   -- ---- not accepted
 
   module _ (no : accepts (w .requests) from x ≡ false) where
-    no-change : changeOf rows w heard m ≡ keeps
+    no-change : changeOf rows w (carries (receives from clock)) m ≡ keeps
     unfolding changeOf
     no-change = rw (reads, no)
 
-    no-peer : newPeer w heard m ≡ none
+    no-peer : newPeer w (carries (receives from clock)) m ≡ none
     unfolding newPeer
     no-peer = rw (reads, no)
 
-    no-event : eventOf w heard m ≡ event.Nothing
+    no-event : eventOf w (carries (receives from clock)) m ≡ event.Nothing
     unfolding eventOf
     no-event = rw (reads, no) (go (w .agent .stats))
       where
@@ -80,70 +77,70 @@ module _ (rows : ℕ) (w : World) (from : Address) (clock : Option ℕ) (m : Lis
         go true = refl
         go false = refl
 
-    says-no : answerOf rows w heard m ≡ answer.No
+    says-no : answerOf rows w (carries (receives from clock)) m ≡ answer.No
     unfolding answerOf
     says-no = rw (reads, no)
 
-    same-but-mark : after rows w heard m ≡ marked (markAfter w heard) w
+    same-but-mark : after rows w (carries (receives from clock)) m ≡ marked (markAfter w (carries (receives from clock))) w
     unfolding after
     same-but-mark =
-        ap (afterBy rows w heard m) no-change
+        ap (afterBy rows w (carries (receives from clock)) m) no-change
         ∙ (λ i. record {
           agent = record {
             transport = w .agent .transport;
             stats = w .agent .stats;
             rto = w .agent .rto;
-            mark = markAfter w heard;
+            mark = markAfter w (carries (receives from clock));
             requests = w .agent .requests;
-            peers = peers-same w heard m no-peer .1 i;
+            peers = peers-same w (carries (receives from clock)) m no-peer .1 i;
           };
           requests = w .requests;
           store = w .store;
-          peers = peers-same w heard m no-peer .0 i;
+          peers = peers-same w (carries (receives from clock)) m no-peer .0 i;
           stats = (ap (λ (v : Event). counted v (w .stats)) no-event ∙ sym (nothing (w .stats))) i;
         })
 
     -- "If not outstanding: not accepted, only the clock mark moves."
-    pub not-accepted : refusalOf rows w heard m ≡ 0 → saysOf rows w heard m ≡ record { answer = answer.No; world = marked (markAfter w heard) w }
-    not-accepted e = passed-does rows w heard m e ∙ (λ i. record { answer = says-no i; world = same-but-mark i })
+    pub not-accepted : refusalOf rows w (carries (receives from clock)) m ≡ 0 → saysOf rows w (carries (receives from clock)) m ≡ record { answer = answer.No; world = marked (markAfter w (carries (receives from clock))) w }
+    not-accepted e = passed-does rows w (carries (receives from clock)) m e ∙ (λ i. record { answer = says-no i; world = same-but-mark i })
 
   -- ---- accepted
 
-  module _ (yes : accepts (w .requests) from x ≡ true) (passed : refusalOf rows w heard m ≡ 0) where
-    says-yes : answerOf rows w heard m ≡ answer.Yes
+  module _ (yes : accepts (w .requests) from x ≡ true) (passed : refusalOf rows w (carries (receives from clock)) m ≡ 0) where
+    says-yes : answerOf rows w (carries (receives from clock)) m ≡ answer.Yes
     unfolding answerOf
     says-yes = rw (reads, yes)
 
-    pub accepted-yes : saysOf rows w heard m .answer ≡ answer.Yes
-    accepted-yes = ap (λ (s : Said). s .answer) (passed-does rows w heard m passed) ∙ says-yes
+    pub accepted-yes : saysOf rows w (carries (receives from clock)) m .answer ≡ answer.Yes
+    accepted-yes = ap (λ (s : Said). s .answer) (passed-does rows w (carries (receives from clock)) m passed) ∙ says-yes
 
-    after-change : (c : Change) → changeOf rows w heard m ≡ c → saysOf rows w heard m .world .requests ≡ changed (w .agent .transport) c (w .requests)
+    after-change : (c : Change) → changeOf rows w (carries (receives from clock)) m ≡ c → saysOf rows w (carries (receives from clock)) m .world .requests ≡ changed (w .agent .transport) c (w .requests)
     unfolding after
     after-change c e =
-        ap (λ (s : Said). s .world .requests) (passed-does rows w heard m passed) ∙ ap (λ (d : Change). changed (w .agent .transport) d (w .requests)) e
+        ap (λ (s : Said). s .world .requests) (passed-does rows w (carries (receives from clock)) m passed) ∙ ap (λ (d : Change). changed (w .agent .transport) d (w .requests)) e
 
     -- "A received response takes its request out if the identifier is outstanding, whatever address it came from."
     module _ (i : ℕ) (r : StunRequestState) (response : isResponse (x .class) ≡ true) (found : lookup (key (x .«transaction_id»)) (w .requests) ≡ At i r) where
-      takes : changeOf rows w heard m ≡ removes i
+      takes : changeOf rows w (carries (receives from clock)) m ≡ removes i
       unfolding changeOf
       takes = rw (reads, yes, response, found)
 
-      pub response-taken : StateFormed rows w → lookup (key (x .«transaction_id»)) (saysOf rows w heard m .world .requests) ≡ Nothing
+      pub response-taken : StateFormed rows w → lookup (key (x .«transaction_id»)) (saysOf rows w (carries (receives from clock)) m .world .requests) ≡ Nothing
       response-taken formed =
           ap (lookup (key (x .«transaction_id»))) (after-change (removes i) takes)
           ∙ lookup-taken (key (x .«transaction_id»)) i r (w .requests) found (formed .requests .order)
 
       pub others-stay : (other : ℕ) → (other ≡ key (x .«transaction_id») → ⊥)
-          → requestOf (lookup other (saysOf rows w heard m .world .requests)) ≡ requestOf (lookup other (w .requests))
+          → requestOf (lookup other (saysOf rows w (carries (receives from clock)) m .world .requests)) ≡ requestOf (lookup other (w .requests))
       others-stay other n =
           ap (λ (l : List StunRequestState). requestOf (lookup other l)) (after-change (removes i) takes)
           ∙ lookup-taken-other (key (x .«transaction_id»)) i r (w .requests) found other n
 
-    quiet : isResponse (x .class) ≡ false → changeOf rows w heard m ≡ keeps
+    quiet : isResponse (x .class) ≡ false → changeOf rows w (carries (receives from clock)) m ≡ keeps
     unfolding changeOf
     quiet other = rw (reads, yes, other)
 
-    pub other-received : isResponse (x .class) ≡ false → saysOf rows w heard m .world .requests ≡ w .requests
+    pub other-received : isResponse (x .class) ≡ false → saysOf rows w (carries (receives from clock)) m .world .requests ≡ w .requests
     other-received other = after-change keeps (quiet other)
 
 -- ---- peers

@@ -2,4 +2,3 @@
 mod Flags
 mod Loaded
 pub mod Formed
-pub mod Use

@@ -13,7 +13,7 @@ ghost use Rattle.requests.specs.Formed.{formed};
 ghost use Rattle.records.specs.Coding.{size};
 ghost use Rattle.records.specs.Live.{live};
 ghost use Rattle.formed.specs.Flags.{lowestFrom};
-ghost use Rattle.formed.specs.Use.{has, inUse};
+ghost use Rattle.requests.specs.Use.{has, inUse};
 ghost use Rattle.formed.specs.Order.{isAfter};
 
 // The identifier of the request behind, if there is one.

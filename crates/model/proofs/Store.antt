@@ -42,7 +42,9 @@ use Rattle.model.specs.Accepts.{onMessage, accepts, isResponse}
 use Rattle.model.specs.Refusals.{Refusal, BAD-MESSAGE, WRONG-CLASS, TABLE-FULL, isRequest, isSubmitted, holds, refusalOf}
 use Rattle.model.specs.Effects.{onFound, keeps, adds, newRequest, taken, answered, reported, wished, changeOf, answerOf, storedBy, after}
 use Rattle.model.specs.Says.{Said, saysOf}
-use Rattle.model.specs.Parts.{inUse, transmissionOf}
+use Rattle.requests.specs.Use.{inUse}
+use Rattle.requests.proofs.Use.{own-in-use}
+use Rattle.model.specs.Parts.{transmissionOf}
 use Rattle.model.specs.declared.Answer.the-variants as answer
 use Rattle.model.proofs.Below.{Submission, submission, byte-kept}
 use Rattle.model.proofs.Refused.{passed-exactly, refused-same, passed-does}
@@ -50,23 +52,12 @@ use Rattle.model.proofs.State.{state-exactly}
 use Rattle.model.proofs.Changes.{Joins, change-fits}
 use Rattle.model.proofs.Kept.{after-formed}
 
--- ---- rows in use
-
-placed-in-use : (l : List StunRequestState) (i : ℕ) (r : StunRequestState) → getElem? l i ≡ some r → inUse (r .row) (r .len) l ≡ true
-placed-in-use [] i r e = none-some e
-placed-in-use (q ∷ qs) zero r e = let z : q ≡ r = some-same e in rw (z, eq-eqb (r .row) (r .row) refl, eq-eqb (r .len) (r .len) refl)
-placed-in-use (q ∷ qs) (suc i) r e = go (eqb (q .row) (r .row) && eqb (q .len) (r .len)) (placed-in-use qs i r e)
-  where
-    go : (b : Bool) → inUse (r .row) (r .len) qs ≡ true → (b || inUse (r .row) (r .len) qs) ≡ true
-    go true h = refl
-    go false h = h
-
 -- The part handed out for an outstanding request of a well-formed world.
 pub part-of-found : (rows : ℕ) (w : World) (k i : ℕ) (r : StunRequestState) → StateFormed rows w → lookup k (w .requests) ≡ At i r
     → transmissionOf rows w (r .row) (r .len) ≡ partOf rows (w .store) (r .row) (r .len)
 unfolding transmissionOf
 part-of-found rows w k i r s e =
-    rw (state-exactly rows w .1 s, placed-in-use (w .requests) i r (found-at k i r (w .requests) e .placed))
+    rw (state-exactly rows w .1 s, own-in-use (w .requests) i r (found-at k i r (w .requests) e .placed))
 
 module _ (rows : ℕ) (w : World) (row len : ℕ) where
   pub part-refused : stateFormed rows w ≡ false → transmissionOf rows w row len ≡ []

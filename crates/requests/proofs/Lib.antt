@@ -6,3 +6,4 @@ pub mod Free
 pub mod Transmits
 pub mod Polls
 pub mod Kept
+pub mod Use

@@ -1,5 +1,5 @@
 -- `has_part` meets its contract: the row decides, and then the length. Assumes nothing.
-use Rattle.formed.proofs.Use.{has-both, has-no-row}
+use Rattle.requests.proofs.Use.{has-both, has-no-row}
 use Rattle.formed.proofs.has_part.Statement.{statement}
 use Rattle.formed.proofs.has_part.Tie as tie
 

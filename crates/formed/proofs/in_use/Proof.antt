@@ -7,9 +7,9 @@ use denote.Ref.{now}
 use lib.ListN.{drop}
 use Rattle.records.specs.Live.{live}
 use Rattle.records.proofs.Live.{live-end}
-use Rattle.formed.specs.Use.{inUse}
+use Rattle.requests.specs.Use.{inUse}
 use Rattle.formed.proofs.Loaded.{loaded-up}
-use Rattle.formed.proofs.Use.{use-next, use-here, use-end}
+use Rattle.requests.proofs.Use.{use-next, use-here, use-end}
 use Rattle.formed.proofs.in_use.Statement.{statement}
 use Rattle.formed.proofs.in_use.Tie as tie
 

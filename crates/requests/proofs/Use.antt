@@ -15,10 +15,10 @@ use lib.ListN.{drop, getElem?}
 use borrow.Author.Tests.{eq-eqb, ne-eqb, eqb-true}
 use Rattle.rows.specs.Lists.{among}
 use Rattle.request.specs.declared.StunRequestState.{StunRequestState}
 use Rattle.requests.specs.Search.{rowOf, rowsOf}
 use Rattle.requests.specs.Formed.{Different}
 use Rattle.requests.proofs.Lists.{apart, neither, is-false, some-same, none-some}
-use Rattle.formed.specs.Use.{has, inUse}
+use Rattle.requests.specs.Use.{has, inUse}
 
 module _ (row len : ℕ) where
   pub has-both : (r : StunRequestState) → r .row ≡ row → eqb (r .len) len ≡ has row len r

@@ -5,14 +5,13 @@
 --     store-other         any other call
 use Prim.Native.Nat.{ℕ, zero, suc, _+_, _*_, _≤_, _<_}
 use mathlib.Core.Path.{_≡_, refl, sym, ap, _∙_, subst}
-use mathlib.Core.Bool.{Bool, true, false, cond, not, _&&_, _||_, and-false}
+use mathlib.Core.Bool.{Bool, true, false, cond, not, _&&_, and-false}
 use mathlib.Core.Logic.{_⊎_}
 use mathlib.Core.List.{List, [], _∷_}
 use mathlib.Core.Option.{some}
 use native.Mathlib.Omega.{arith}
-use lib.Dec.{eqb}
-use lib.ListN.{length, getD, getElem?}
-use borrow.Author.Tests.{leb-false, eq-eqb}
+use lib.ListN.{length, getD}
+use borrow.Author.Tests.{leb-false}
 use Rattle.address.specs.declared.Address.{Address}
 use Rattle.message.specs.Head.{key}
 use Rattle.message.specs.Attributes.{messageOf}
@@ -33,7 +32,7 @@ use Rattle.requests.specs.declared.Found.the-variants.{At, Nothing}
 use Rattle.requests.specs.declared.FreeRow.the-variants.{Row}
 use Rattle.requests.specs.declared.Polled.{Polled}
 use Rattle.requests.specs.declared.Polled.the-variants.{TimedOut, Cancelled, WaitUntil}
-use Rattle.requests.proofs.Lists.{apart, some-same, none-some}
+use Rattle.requests.proofs.Lists.{apart}
 use Rattle.requests.proofs.Search.{found-at, lookup-added}
 use Rattle.requests.proofs.Free.{free-row, free-exists}
 use Rattle.model.specs.World.{World, StateFormed, stateFormed}

@@ -76,13 +76,16 @@ module _ (a : StunAgent) (l : List StunRequestState) (store m : List ℕ) (peers
 
 -- ---- the peers
 
-quiet : (b : Bool) → cond b event.Nothing event.Nothing ≡ event.Nothing
+pub quiet : (b : Bool) → cond b event.Nothing event.Nothing ≡ event.Nothing
 quiet true = refl
 quiet false = refl
 
--- The agent with another number of peers.
+-- The agent with another clock mark and other numbers of requests and peers.
+abbrev pub moved : StunAgent → ℕ → ℕ → ℕ → StunAgent
+moved a mark requests peers = record { transport = a .transport; stats = a .stats; rto = a .rto; mark = mark; requests = requests; peers = peers }
+
 abbrev joined : StunAgent → ℕ → StunAgent
-joined a n = record { transport = a .transport; stats = a .stats; rto = a .rto; mark = a .mark; requests = a .requests; peers = n }
+joined a n = moved a (a .mark) (a .requests) n
 
 asked : (b k is : Bool) (a : StunAgent) → k ≡ is
     → calledOf a (yesOrNo is) event.Nothing Nowhere ≡ calledOf a (yesOrNo k) (cond b event.Nothing event.Nothing) Nowhere

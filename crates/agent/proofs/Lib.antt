@@ -2,3 +2,7 @@
 pub mod Ready
 mod Fresh
 mod Calls
+mod Sends
+mod Table
+mod Named
+mod Scans

@@ -1,24 +1,38 @@
 -- What a call's function answers, in the terms of the model at its own call: behind the test of the state, for all that it isn't handed.
-use Prim.Native.Nat.{ℕ, zero, suc}
+use Prim.Native.Nat.{ℕ, zero, suc, _^_}
 use mathlib.Core.Path.{_≡_}
-use mathlib.Core.Bool.{Bool, cond}
+use mathlib.Core.Bool.{Bool, false, cond, not, _||_}
 use mathlib.Core.List.{List}
-use lib.ListN.{length, take}
+use lib.Dec.{ltb}
+use lib.ListN.{length, set}
 use Rattle.address.specs.declared.Address.{Address}
+use Rattle.waits.specs.Waits.{withinLimits}
+use Rattle.waits.specs.declared.Transport.{Transport}
+use Rattle.rows.specs.Lists.{insertAt, removeAt}
+use Rattle.rows.specs.Rows.{rows}
 use Rattle.stats.specs.declared.StunAgentStats.{StunAgentStats}
 use Rattle.stats.specs.declared.Event.{Event}
 use Rattle.stats.specs.declared.Event.the-variants as event
+use Rattle.request.specs.Request.{silenced, cancelled, configured}
 use Rattle.request.specs.declared.StunRequestState.{StunRequestState}
+use Rattle.requests.specs.Search as Search
+use Rattle.requests.specs.Search.{keyOf}
+use Rattle.records.specs.Coding.{width, encode}
+use Rattle.records.specs.Live.{live, Became}
+use Rattle.table.specs.Table.{walkRows}
 use Rattle.model.specs.World.{World, known}
-use Rattle.model.specs.Calls.{Kind, onSome}
+use Rattle.model.specs.Calls.{Kind, wishSettings, onSome}
+use Rattle.model.specs.Calls as model
 use Rattle.model.specs.Accepts.{newPeer}
 use Rattle.model.specs.Refusals.{refusalPast}
-use Rattle.model.specs.Effects.{answerOf, eventOf, after}
+use Rattle.model.specs.Effects.{Change, keeps, adds, removes, sets, steps, changed, countAfter, changeOf, answerOf, eventOf, after}
 use Rattle.model.specs.declared.StunAgent.{StunAgent}
 use Rattle.model.specs.declared.Answer.{Answer}
 use Rattle.model.specs.declared.Answer.the-variants as answer
-use Rattle.agent.specs.Ready.{worldWith}
+use Rattle.agent.specs.Ready.{worldWith, worldOf}
 use Rattle.agent.specs.declared.Called.{Called}
+use Rattle.agent.specs.declared.Wish.{Wish}
+use Rattle.agent.specs.declared.Wish.the-variants.{Silence, Cancel, Configure}
 use Rattle.agent.specs.declared.Place.{Place}
 use Rattle.agent.specs.declared.Place.the-variants.{At, Nowhere}
 
@@ -64,3 +78,61 @@ abbrev pub Meeting : StunAgent → Address → Bool → ℕ → Kind → Called 
 Meeting a addr isKnown places k r =
     (l : List StunRequestState) (store m : List ℕ) (peers : List Address) (st : StunAgentStats)
     → length peers ≡ places → known (worldWith a l store peers st) addr ≡ isKnown → r ≡ called 32 (worldWith a l store peers st) k m
+
+-- Where the message is this.
+abbrev pub Carrying : StunAgent → Kind → List ℕ → Called → Type 0
+Carrying a k m r = (l : List StunRequestState) (store : List ℕ) (peers : List Address) (st : StunAgentStats) → r ≡ called 32 (worldWith a l store peers st) k m
+
+-- Where the requests are those of these words.
+abbrev pub Looking : StunAgent → List ℕ → Kind → Called → Type 0
+Looking a t k r = (store m : List ℕ) (peers : List Address) (st : StunAgentStats) → r ≡ called 32 (worldOf a t store peers st) k m
+
+-- ---- the table
+
+-- The rows after a change; those of requests that it doesn't touch keep their words.
+abbrev pub rowsAfter : Transport → Change → ℕ → List ℕ → List (List ℕ)
+rowsAfter tr keeps n t = rows width n t
+rowsAfter tr (adds r) n t = insertAt (rows width n t) (Search.placeOf (keyOf r) (live n t)) (encode r)
+rowsAfter tr (removes i) n t = removeAt (rows width n t) i
+rowsAfter tr (sets i r) n t = set (rows width n t) i (encode r)
+rowsAfter tr (steps now) n t = walkRows tr now (rows width n t) .after
+
+-- t became t′: every word, and the requests, which are the model's.
+abbrev pub TableAfter : Transport → Change → ℕ → List ℕ → List ℕ → Type 0
+TableAfter tr c n t t′ = Became t t′ (countAfter c n) (rowsAfter tr c n t) (changed tr c (live n t))
+
+-- A refused call changes no request.
+abbrev pub unless : ℕ → Change → Change
+unless zero c = c
+unless (suc n) c = keeps
+
+unfoldable pub changePast : ℕ → World → Kind → List ℕ → Change
+changePast rows w k m = unless (refusalPast rows w k m) (changeOf rows w k m)
+
+-- What a call over the table answers, and every word after it.
+pub record Acts (w : World) (k : Kind) (m t t′ : List ℕ) (r : Called) : Type 0 where
+  pub says : r ≡ called 32 w k m
+  pub then : TableAfter (w .agent .transport) (changePast 32 w k m) (w .agent .requests) t t′
+
+abbrev pub Turning : StunAgent → Kind → List ℕ → List ℕ → Called → Type 0
+Turning a k t t′ r = (store m : List ℕ) (peers : List Address) (st : StunAgentStats) → Acts (worldOf a t store peers st) k m t t′ r
+
+-- ---- parts of the calls
+
+-- Refusal 3.
+abbrev pub isLate : StunAgent → ℕ → Bool
+isLate a now = ltb (2 ^ 60) now || ltb now (a .mark)
+
+-- What is to be changed in a request, in the model's words.
+abbrev pub wishOf : Wish → model.Wish
+wishOf Silence = model.silence
+wishOf Cancel = model.cancel
+wishOf (Configure rto) = model.configure rto
+
+abbrev pub isUnfit : Wish → Bool
+isUnfit wish = onSome (wishSettings (wishOf wish)) false (λ rto. not (withinLimits rto))
+
+abbrev pub altered : Wish → StunRequestState → StunRequestState
+altered Silence r = silenced r
+altered Cancel r = cancelled r
+altered (Configure rto) r = configured rto r

@@ -5,23 +5,34 @@
 // The agent's calls over the table and the store that the host lends. The types are the model's, which is another crate, so that the
 // Rust's methods are functions here.
 use address::Address;
+use message::Message;
+use message::MessageClass;
+use message::Parsed;
+use message::TransactionId;
 use model::Answer;
 use model::Built;
 use model::StunAgent;
 use model::StunAgentBuilder;
 use records::WIDTH;
+use request::StunRequestState;
+use requests::Found;
+use requests::Polled;
+use requests::Transmitted;
 use stats::Event;
 use stats::Outstanding;
 use stats::StunAgentStats;
 use store::ROW;
 use store::ROWS;
+use waits::LONGEST;
 use waits::RequestRto;
 use waits::Transport;
 ghost use mathlib.Core.Path.{_≡_};
-ghost use Rattle.model.specs.Calls.{ask, validate, numbers, mean, unsettled, anew, meets, counts};
+ghost use Rattle.model.specs.Calls.{ask, validate, numbers, mean, unsettled, anew, carries, scans, names, meets, counts, sends, transmits, reports, silence, cancel, configure, query, shortForm};
+ghost use Rattle.model.specs.Effects.{sentAs, handedOut};
+ghost use Rattle.model.specs.Refusals.{isRequest};
 ghost use Rattle.model.specs.Says.{unset, buildOf};
-ghost use Rattle.agent.specs.Ready.{ready, HandsOut};
-ghost use Rattle.agent.specs.Called.{calledOf, refusedWith, noted, Everywhere, Counting, Meeting};
+ghost use Rattle.agent.specs.Ready.{ready, Lent, HandsOut};
+ghost use Rattle.agent.specs.Called.{calledOf, refusedWith, noted, isLate, isUnfit, wishOf, altered, Everywhere, Counting, Meeting, Carrying, Looking, Turning};
 
 // ---- a fresh agent
 
@@ -252,4 +263,252 @@ fn reset(agent: StunAgent) -> Called
         return done(agent, Answer::Ok, Event::Reset, Place::Nowhere);
     }
     refused(agent, 11)
+}
+
+// The event, where statistics are on.
+fn event_of(agent: StunAgent, event: Event) -> Event
+    ensures { λ r. ⌜ r ≡ noted agent event ⌝ }
+{
+    if agent.stats { event } else { Event::Nothing }
+}
+
+fn wide(n: usize) -> u64
+    ensures { λ r. ⌜ r ≡ n ⌝ }
+{
+    n as u64
+}
+
+fn is_request(class: MessageClass) -> bool
+    ensures { λ r. ⌜ r ≡ isRequest class ⌝ }
+{
+    match class {
+        MessageClass::Request => true,
+        MessageClass::Indication => false,
+        MessageClass::Success => false,
+        MessageClass::Error => false,
+    }
+}
+
+fn sent_as(n: u64, class: MessageClass) -> Event
+    ensures { λ r. ⌜ r ≡ sentAs n class ⌝ }
+{
+    match class {
+        MessageClass::Request => Event::Nothing,
+        MessageClass::Indication => Event::IndicationSent(n),
+        MessageClass::Success => Event::ResponseSent(n),
+        MessageClass::Error => Event::ResponseSent(n),
+    }
+}
+
+fn send(agent: StunAgent, to: Address, message: &[u8]) -> Called
+    ensures { λ r. ⌜ Carrying agent (carries (sends to)) (now (message .entry)) r ⌝ }
+{
+    let Parsed::Good(x) = Message::from_bytes(message) else {
+        return refused(agent, 5);
+    };
+    let class = x.class;
+    if is_request(class) {
+        return refused(agent, 6);
+    }
+    let event = event_of(agent, sent_as(wide(message.len()), class));
+    done(agent, Answer::Ok, event, Place::Nowhere)
+}
+
+// ---- the calls over the table: one request
+
+fn request_transaction(agent: StunAgent, table: &[u64], id: TransactionId) -> Called
+    requires { ⌜ Lent agent (now table) ⌝ }
+    ensures { λ r. ⌜ Looking agent (now (table .entry)) (names id query) r ⌝ }
+{
+    match table::find(table, agent.requests, id) {
+        Found::At {
+            place: _,
+            request: q,
+        } => {
+            let to = q.to;
+            let integrity = q.request_integrity;
+            done(
+                agent,
+                Answer::Request {
+                    to: to,
+                    integrity: integrity,
+                },
+                Event::Nothing,
+                Place::Nowhere,
+            )
+        }
+        Found::Nothing => refused(agent, 9),
+    }
+}
+
+// What is to be changed in a request.
+enum Wish {
+    Silence,
+    Cancel,
+    Configure(RequestRto),
+}
+
+impl Wish {
+    // Whether it carries settings past their limits.
+    fn is_unfit(self) -> bool
+        ensures { λ r. ⌜ r ≡ isUnfit self ⌝ }
+    {
+        match self {
+            Wish::Silence => false,
+            Wish::Cancel => false,
+            Wish::Configure(rto) => !rto.within_limits(),
+        }
+    }
+
+    fn alter(self, request: StunRequestState) -> StunRequestState
+        ensures { λ r. ⌜ r ≡ altered self request ⌝ }
+    {
+        match self {
+            Wish::Silence => request.cancel_retransmissions(),
+            Wish::Cancel => request.cancel(),
+            Wish::Configure(rto) => request.configure_timeout_with_max(rto),
+        }
+    }
+}
+
+// The calls that change one request.
+fn change(agent: StunAgent, table: &mut [u64], id: TransactionId, wish: Wish) -> Called
+    requires { ⌜ Lent agent (now table) ⌝ }
+    ensures { λ r. ⌜ Turning agent (names id (wishOf wish)) (now (table .entry)) (now (table .exit)) r ⌝ }
+{
+    if wish.is_unfit() {
+        return refused(agent, 2);
+    }
+    let n = agent.requests;
+    match table::find(table, n, id) {
+        Found::At {
+            place: at,
+            request: q,
+        } => {
+            let p = wish.alter(q);
+            table::replace(table, n, at, p);
+            done(agent, Answer::Ok, Event::Nothing, Place::Nowhere)
+        }
+        Found::Nothing => refused(agent, 9),
+    }
+}
+
+fn cancel_retransmissions(agent: StunAgent, table: &mut [u64], id: TransactionId) -> Called
+    requires { ⌜ Lent agent (now table) ⌝ }
+    ensures { λ r. ⌜ Turning agent (names id silence) (now (table .entry)) (now (table .exit)) r ⌝ }
+{
+    change(agent, table, id, Wish::Silence)
+}
+
+fn cancel(agent: StunAgent, table: &mut [u64], id: TransactionId) -> Called
+    requires { ⌜ Lent agent (now table) ⌝ }
+    ensures { λ r. ⌜ Turning agent (names id cancel) (now (table .entry)) (now (table .exit)) r ⌝ }
+{
+    change(agent, table, id, Wish::Cancel)
+}
+
+fn configure_timeout_with_max(
+    agent: StunAgent,
+    table: &mut [u64],
+    id: TransactionId,
+    rto: RequestRto,
+) -> Called
+    requires { ⌜ Lent agent (now table) ⌝ }
+    ensures { λ r. ⌜ Turning agent (names id (configure rto)) (now (table .entry)) (now (table .exit)) r ⌝ }
+{
+    change(agent, table, id, Wish::Configure(rto))
+}
+
+fn configure_timeout(
+    agent: StunAgent,
+    table: &mut [u64],
+    id: TransactionId,
+    initial: u64,
+    retransmits: u32,
+    last_retransmit: u64,
+) -> Called
+    requires { ⌜ Lent agent (now table) ⌝ }
+    ensures { λ r. ⌜ Turning agent (names id (configure (shortForm initial retransmits «last_retransmit»))) (now (table .entry)) (now (table .exit)) r ⌝ }
+{
+    let rto = RequestRto {
+        initial: initial,
+        max: LONGEST,
+        retransmits: retransmits,
+        last_retransmit: last_retransmit,
+    };
+    change(agent, table, id, Wish::Configure(rto))
+}
+
+// ---- the calls over the table: the passing of time
+
+// Refusal 3.
+fn is_late(agent: StunAgent, now: u64) -> bool
+    ensures { λ r. ⌜ r ≡ isLate agent now ⌝ }
+{
+    if now > 1152921504606846976 {
+        return true;
+    }
+    now < agent.mark
+}
+
+// The Rust's `Transmit`.
+fn handed_out(request: StunRequestState) -> Answer
+    ensures { λ r. ⌜ r ≡ handedOut request ⌝ }
+{
+    let id = request.transaction_id;
+    let to = request.to;
+    Answer::Send {
+        id: id,
+        to: to,
+        row: request.row,
+        len: request.len,
+    }
+}
+
+fn poll_transmit(agent: StunAgent, table: &mut [u64], clock: u64) -> Called
+    requires { ⌜ Lent agent (now table) ⌝ }
+    ensures { λ r. ⌜ Turning agent (scans transmits clock) (now (table .entry)) (now (table .exit)) r ⌝ }
+{
+    if is_late(agent, clock) {
+        return refused(agent, 3);
+    }
+    let transport = agent.transport;
+    let out = table::poll_transmit(table, agent.requests, transport, clock);
+    let mut next = agent;
+    next.mark = clock;
+    match out {
+        Transmitted::Sends(q) => {
+            let event = event_of(agent, Event::RetransmitBytes(wide(q.len)));
+            done(next, handed_out(q), event, Place::Nowhere)
+        }
+        Transmitted::Quiet => done(next, Answer::None, Event::Nothing, Place::Nowhere),
+    }
+}
+
+fn poll(agent: StunAgent, table: &mut [u64], clock: u64) -> Called
+    requires { ⌜ Lent agent (now table) ⌝ }
+    ensures { λ r. ⌜ Turning agent (scans reports clock) (now (table .entry)) (now (table .exit)) r ⌝ }
+{
+    if is_late(agent, clock) {
+        return refused(agent, 3);
+    }
+    let transport = agent.transport;
+    let n = agent.requests;
+    let mut next = agent;
+    next.mark = clock;
+    match table::poll(table, n, transport, clock) {
+        Polled::TimedOut { place: at, id: id } => {
+            table::remove(table, n, at);
+            next.requests = n - 1;
+            let event = event_of(agent, Event::TimedOut);
+            done(next, Answer::TimedOut(id), event, Place::Nowhere)
+        }
+        Polled::Cancelled { place: at, id: id } => {
+            table::remove(table, n, at);
+            next.requests = n - 1;
+            let event = event_of(agent, Event::Cancelled);
+            done(next, Answer::Cancelled(id), event, Place::Nowhere)
+        }
+        Polled::WaitUntil(w) => done(next, Answer::Wait(w), Event::Nothing, Place::Nowhere),
+    }
 }

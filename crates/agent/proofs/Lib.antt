@@ -6,3 +6,4 @@ mod Sends
 mod Table
 mod Named
 mod Scans
+mod Received

@@ -3,6 +3,7 @@ use Prim.Native.Nat.{ℕ, zero, suc, _^_}
 use mathlib.Core.Path.{_≡_}
 use mathlib.Core.Bool.{Bool, false, cond, not, _||_}
 use mathlib.Core.List.{List}
+use mathlib.Core.Option.{Option, none, some}
 use lib.Dec.{ltb}
 use lib.ListN.{length, set}
 use Rattle.address.specs.declared.Address.{Address}
@@ -11,8 +12,12 @@ use Rattle.waits.specs.declared.Transport.{Transport}
 use Rattle.rows.specs.Lists.{insertAt, removeAt}
 use Rattle.rows.specs.Rows.{rows}
 use Rattle.stats.specs.declared.StunAgentStats.{StunAgentStats}
+use Rattle.stats.specs.declared.Rtt.{Rtt}
+use Rattle.stats.specs.declared.Rtt.the-variants as rtt
 use Rattle.stats.specs.declared.Event.{Event}
 use Rattle.stats.specs.declared.Event.the-variants as event
+use Rattle.request.specs.Times.{rttOf}
+use Rattle.request.specs.Limits.{RequestLimits}
 use Rattle.request.specs.Request.{silenced, cancelled, configured}
 use Rattle.request.specs.declared.StunRequestState.{StunRequestState}
 use Rattle.requests.specs.Search as Search
@@ -34,7 +39,10 @@ use Rattle.agent.specs.declared.Called.{Called}
 use Rattle.agent.specs.declared.Wish.{Wish}
 use Rattle.agent.specs.declared.Wish.the-variants.{Silence, Cancel, Configure}
 use Rattle.agent.specs.declared.Place.{Place}
-use Rattle.agent.specs.declared.Place.the-variants.{At, Nowhere}
+use Rattle.agent.specs.declared.Place.the-variants.{Nowhere}
+use Rattle.agent.specs.declared.Place.the-variants as place
+use Rattle.agent.specs.declared.Clock.{Clock}
+use Rattle.agent.specs.declared.Clock.the-variants.{At, Absent}
 
 abbrev pub calledOf : StunAgent → Answer → Event → Place → Called
 calledOf a x e p = record { agent = a; answer = x; event = e; place = p }
@@ -53,7 +61,7 @@ noted a e = cond (a .stats) e event.Nothing
 
 -- "A new peer goes behind the last one."
 abbrev pub placeOf : World → Kind → List ℕ → Place
-placeOf w k m = onSome (newPeer w k m) Nowhere (λ a. At (w .agent .peers))
+placeOf w k m = onSome (newPeer w k m) Nowhere (λ a. place.At (w .agent .peers))
 
 -- The model at one call, behind the test of the state.
 abbrev pub effect : ℕ → World → Kind → List ℕ → Called
@@ -136,3 +144,29 @@ abbrev pub altered : Wish → StunRequestState → StunRequestState
 altered Silence r = silenced r
 altered Cancel r = cancelled r
 altered (Configure rto) r = configured rto r
+
+-- A clock, if there is one: refusal 3, the mark afterwards, and the round trip.
+abbrev pub optionOf : Clock → Option ℕ
+optionOf (At now) = some now
+optionOf Absent = none
+
+abbrev pub isPast : StunAgent → Clock → Bool
+isPast a clock = onSome (optionOf clock) false (λ now. isLate a now)
+
+abbrev pub markBy : StunAgent → Clock → ℕ
+markBy a clock = onSome (optionOf clock) (a .mark) (λ now. now)
+
+abbrev pub rttBy : Clock → StunRequestState → Rtt
+rttBy clock r = onSome (optionOf clock) rtt.Absent (λ now. rttOf now r)
+
+-- The request was last sent no later than that clock.
+abbrev pub Timely : Clock → StunRequestState → Type 0
+Timely (At now) r = RequestLimits 32 now r
+Timely Absent r = Unit
+
+-- A received message, where there are so many places for peers, and it is known whether the sender is one.
+abbrev pub Receiving : StunAgent → Address → Bool → ℕ → Option ℕ → List ℕ → List ℕ → List ℕ → Called → Type 0
+Receiving a from isKnown places clock m t t′ r =
+    (store : List ℕ) (peers : List Address) (st : StunAgentStats)
+    → length peers ≡ places → known (worldOf a t store peers st) from ≡ isKnown
+    → Acts (worldOf a t store peers st) (model.carries (model.receives from clock)) m t t′ r

@@ -20,6 +20,7 @@ use requests::Polled;
 use requests::Transmitted;
 use stats::Event;
 use stats::Outstanding;
+use stats::Rtt;
 use stats::StunAgentStats;
 use store::ROW;
 use store::ROWS;
@@ -27,12 +28,17 @@ use waits::LONGEST;
 use waits::RequestRto;
 use waits::Transport;
 ghost use mathlib.Core.Path.{_≡_};
-ghost use Rattle.model.specs.Calls.{ask, validate, numbers, mean, unsettled, anew, carries, scans, names, meets, counts, sends, transmits, reports, silence, cancel, configure, query, shortForm};
-ghost use Rattle.model.specs.Effects.{sentAs, handedOut};
+ghost use Rattle.model.specs.Calls.{ask, validate, numbers, mean, unsettled, anew, carries, scans, names, meets, counts, sends, receives, transmits, reports, silence, cancel, configure, query, shortForm};
+ghost use Prim.Native.Nat.{_+_};
+ghost use mathlib.Core.Bool.{false, cond, not, _&&_};
+ghost use mathlib.Core.Option.{none, some};
+ghost use lib.Dec.{leb};
+ghost use Rattle.model.specs.Accepts.{isResponse};
+ghost use Rattle.model.specs.Effects.{sentAs, receivedAs, handedOut};
 ghost use Rattle.model.specs.Refusals.{isRequest};
 ghost use Rattle.model.specs.Says.{unset, buildOf};
 ghost use Rattle.agent.specs.Ready.{ready, Lent, HandsOut};
-ghost use Rattle.agent.specs.Called.{calledOf, refusedWith, noted, isLate, isUnfit, wishOf, altered, Everywhere, Counting, Meeting, Carrying, Looking, Turning};
+ghost use Rattle.agent.specs.Called.{calledOf, refusedWith, noted, isLate, isUnfit, wishOf, altered, optionOf, isPast, markBy, rttBy, Timely, Everywhere, Counting, Meeting, Carrying, Looking, Turning, Receiving};
 
 // ---- a fresh agent
 
@@ -511,4 +517,179 @@ fn poll(agent: StunAgent, table: &mut [u64], clock: u64) -> Called
         }
         Polled::WaitUntil(w) => done(next, Answer::Wait(w), Event::Nothing, Place::Nowhere),
     }
+}
+
+// ---- received messages
+
+// With a clock or without: the Rust's two handlers.
+enum Clock {
+    At(u64),
+    Absent,
+}
+
+impl Clock {
+    // Refusal 3.
+    fn is_past(self, agent: StunAgent) -> bool
+        ensures { λ r. ⌜ r ≡ isPast agent self ⌝ }
+    {
+        match self {
+            Clock::At(now) => is_late(agent, now),
+            Clock::Absent => false,
+        }
+    }
+
+    fn mark(self, agent: StunAgent) -> u64
+        ensures { λ r. ⌜ r ≡ markBy agent self ⌝ }
+    {
+        match self {
+            Clock::At(now) => now,
+            Clock::Absent => agent.mark,
+        }
+    }
+
+    fn round_trip(self, request: StunRequestState) -> Rtt
+        requires { ⌜ Timely self request ⌝ }
+        ensures { λ r. ⌜ r ≡ rttBy self request ⌝ }
+    {
+        match self {
+            Clock::At(now) => request.round_trip(now),
+            Clock::Absent => Rtt::Absent,
+        }
+    }
+}
+
+fn is_response(class: MessageClass) -> bool
+    ensures { λ r. ⌜ r ≡ isResponse class ⌝ }
+{
+    match class {
+        MessageClass::Request => false,
+        MessageClass::Indication => false,
+        MessageClass::Success => true,
+        MessageClass::Error => true,
+    }
+}
+
+fn received_as(n: u64, rtt: Rtt, class: MessageClass) -> Event
+    ensures { λ r. ⌜ r ≡ receivedAs n rtt class ⌝ }
+{
+    match class {
+        MessageClass::Request => Event::RequestReceived(n),
+        MessageClass::Indication => Event::IndicationReceived(n),
+        MessageClass::Success => Event::ResponseReceived(n, rtt),
+        MessageClass::Error => Event::ResponseReceived(n, rtt),
+    }
+}
+
+// Refusal 10 of an address that is to be validated.
+fn is_crowded(agent: StunAgent, known: bool, places: usize) -> bool
+    ensures { λ r. ⌜ r ≡ (not known && leb places (agent .peers)) ⌝ }
+{
+    if known {
+        return false;
+    }
+    places <= agent.peers
+}
+
+fn place_of(agent: StunAgent, known: bool) -> Place
+    ensures { λ r. ⌜ r ≡ cond known Place.Nowhere (Place.At (agent .peers)) ⌝ }
+{
+    if known {
+        return Place::Nowhere;
+    }
+    let n = agent.peers;
+    Place::At(n)
+}
+
+fn peers_after(agent: StunAgent, known: bool, places: usize) -> usize
+    requires { ⌜ (not known && leb places (agent .peers)) ≡ false ⌝ }
+    ensures { λ r. ⌜ r ≡ cond known (agent .peers) (agent .peers + 1) ⌝ }
+{
+    if known {
+        return agent.peers;
+    }
+    agent.peers + 1
+}
+
+// The Rust's function of this name.
+fn handle_stun_message_internal(
+    agent: StunAgent,
+    table: &mut [u64],
+    from: Address,
+    clock: Clock,
+    known: bool,
+    places: usize,
+    message: &[u8],
+) -> Called
+    requires { ⌜ Lent agent (now table) ⌝ }
+    ensures { λ r. ⌜ Receiving agent from known places (optionOf clock) (now (message .entry)) (now (table .entry)) (now (table .exit)) r ⌝ }
+{
+    if clock.is_past(agent) {
+        return refused(agent, 3);
+    }
+    let Parsed::Good(x) = Message::from_bytes(message) else {
+        return refused(agent, 5);
+    };
+    let mut next = agent;
+    next.mark = clock.mark(agent);
+    let crowded = is_crowded(agent, known, places);
+    let place = place_of(agent, known);
+    let n = agent.requests;
+    let len = wide(message.len());
+    let class = x.class;
+    let id = x.transaction_id;
+    if is_response(class) {
+        match table::find(table, n, id) {
+            Found::At {
+                place: at,
+                request: q,
+            } => {
+                if crowded {
+                    return refused(agent, 10);
+                }
+                let rtt = clock.round_trip(q);
+                table::remove(table, n, at);
+                next.requests = n - 1;
+                next.peers = peers_after(agent, known, places);
+                let event = event_of(agent, received_as(len, rtt, class));
+                done(next, Answer::Yes, event, place)
+            }
+            Found::Nothing => done(next, Answer::No, Event::Nothing, Place::Nowhere),
+        }
+    } else {
+        if crowded {
+            return refused(agent, 10);
+        }
+        next.peers = peers_after(agent, known, places);
+        let event = event_of(agent, received_as(len, Rtt::Absent, class));
+        done(next, Answer::Yes, event, place)
+    }
+}
+
+fn handle_stun_message_with_time(
+    agent: StunAgent,
+    table: &mut [u64],
+    from: Address,
+    clock: u64,
+    known: bool,
+    places: usize,
+    message: &[u8],
+) -> Called
+    requires { ⌜ Lent agent (now table) ⌝ }
+    ensures { λ r. ⌜ Receiving agent from known places (some clock) (now (message .entry)) (now (table .entry)) (now (table .exit)) r ⌝ }
+{
+    handle_stun_message_internal(agent, table, from, Clock::At(clock), known, places, message)
+}
+
+fn handle_stun_message(
+    agent: StunAgent,
+    table: &mut [u64],
+    from: Address,
+    known: bool,
+    places: usize,
+    message: &[u8],
+) -> Called
+    requires { ⌜ Lent agent (now table) ⌝ }
+    ensures { λ r. ⌜ Receiving agent from known places none (now (message .entry)) (now (table .entry)) (now (table .exit)) r ⌝ }
+{
+    handle_stun_message_internal(agent, table, from, Clock::Absent, known, places, message)
 }

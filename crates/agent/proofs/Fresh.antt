@@ -2,8 +2,6 @@
 use mathlib.Core.Path.{_≡_}
 use mathlib.Core.Bool.{Bool, true, false, cond}
 use Rattle.waits.specs.Waits.{withinLimits}
-use Rattle.waits.specs.declared.RequestRto.{RequestRto}
-use Rattle.waits.specs.declared.Transport.{Transport}
 use Rattle.stats.specs.declared.Event.{Event}
 use Rattle.stats.specs.declared.Event.the-variants as event
 use Rattle.model.specs.Says.{freshAgent, freshEvent, buildOf}

@@ -1,7 +1,7 @@
 -- A law for each way through a received message.
 use Prim.Native.Nat.{ℕ, _+_, _^_, _<_}
 use mathlib.Core.Path.{_≡_, refl, sym, ap, _∙_}
-use mathlib.Core.Bool.{Bool, true, false, cond, not, _&&_, _||_}
+use mathlib.Core.Bool.{Bool, true, false, cond, not, _&&_}
 use mathlib.Core.List.{List}
 use mathlib.Core.Option.{Option, none, some}
 use lib.Dec.{leb, ltb}
@@ -32,11 +32,11 @@ use Rattle.model.specs.World.{known}
 use Rattle.model.specs.Calls.{carries, receives, onSome}
 use Rattle.model.specs.Accepts.{newPeer, onMessage, isFound, isResponse, accepts}
 use Rattle.model.specs.Refusals.{refusalPast}
-use Rattle.model.specs.Effects.{Change, keeps, removes, taken, answered, receivedAs, rttAt, yesOrNo, countAfter, changeOf, answerOf, eventOf, peerCount, after}
+use Rattle.model.specs.Effects.{Change, keeps, removes, answered, receivedAs, rttAt, yesOrNo, countAfter, changeOf, answerOf, eventOf, peerCount, after}
 use Rattle.model.specs.declared.StunAgent.{StunAgent}
 use Rattle.model.specs.declared.Answer.the-variants as answer
 use Rattle.agent.specs.Ready.{worldOf, Lent}
-use Rattle.agent.specs.Called.{calledOf, refusedWith, tried, called, noted, unless, changePast, TableAfter, Acts, isLate, optionOf, isPast, markBy, rttBy, Timely}
+use Rattle.agent.specs.Called.{calledOf, refusedWith, tried, called, noted, unless, changePast, TableAfter, Acts, optionOf, isPast, markBy, rttBy, Timely}
 use Rattle.agent.specs.declared.Called.{Called}
 use Rattle.agent.specs.declared.Clock.{Clock}
 use Rattle.agent.specs.declared.Clock.the-variants as clock

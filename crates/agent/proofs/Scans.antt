@@ -1,12 +1,9 @@
 -- A law for each way through `poll_transmit` and `poll`.
-use Prim.Native.Nat.{ℕ, _-_}
+use Prim.Native.Nat.{ℕ}
 use mathlib.Core.Path.{_≡_, refl, sym, ap, _∙_}
 use mathlib.Core.Bool.{Bool, true, false, cond}
 use mathlib.Core.List.{List}
-use Rattle.rows.specs.Lists.{removeAt}
-use Rattle.rows.specs.Rows.{rows}
 use Rattle.address.specs.declared.Address.{Address}
-use Rattle.message.specs.declared.TransactionId.{TransactionId}
 use Rattle.stats.specs.declared.StunAgentStats.{StunAgentStats}
 use Rattle.stats.specs.declared.Event.{Event}
 use Rattle.stats.specs.declared.Event.the-variants as event
@@ -15,13 +12,12 @@ use Rattle.requests.specs.Scan.{walk, pollAll}
 use Rattle.requests.specs.declared.Transmitted.{Transmitted}
 use Rattle.requests.specs.declared.Transmitted.the-variants.{Sends, Quiet}
 use Rattle.requests.specs.declared.Polled.{Polled}
-use Rattle.records.specs.Coding.{width}
-use Rattle.records.specs.Live.{live, Became}
+use Rattle.records.specs.Live.{live}
 use Rattle.table.specs.Table.{Transmits}
 use Rattle.model.specs.Calls.{Scan, scans, transmits, reports}
 use Rattle.model.specs.Accepts.{newPeer}
 use Rattle.model.specs.Refusals.{refusalPast}
-use Rattle.model.specs.Effects.{Change, handedOut, keeps, removes, steps, reported, countAfter, transmitAnswer, transmitEvent, pollAnswer, pollEvent, changeOf, answerOf, eventOf, peerCount, after}
+use Rattle.model.specs.Effects.{Change, handedOut, keeps, steps, reported, countAfter, transmitAnswer, transmitEvent, pollAnswer, pollEvent, changeOf, answerOf, eventOf, peerCount, after}
 use Rattle.model.specs.declared.StunAgent.{StunAgent}
 use Rattle.model.specs.declared.Answer.{Answer}
 use Rattle.model.specs.declared.Answer.the-variants as answer

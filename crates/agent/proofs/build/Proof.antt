@@ -4,9 +4,6 @@ use Rattle.agent.proofs.Ready.{fails, passes}
 use borrow.Author.Needs.{needs}
 use Rattle.agent.proofs.build.Statement.{statement}
 use Rattle.agent.proofs.build.Tie as tie
-use Rattle.agent.proofs.build.Reads as reads
-use Rattle.agent.proofs.build.Lts as lts
-use Rattle.waits.proofs.RequestRto.within_limits.Reads as within-limits-reads
 
 within-limits-requires : tie.Need-within-limits-requires
 within-limits-requires c κs = search needs

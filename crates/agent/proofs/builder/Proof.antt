@@ -2,9 +2,6 @@
 use borrow.Author.Needs.{needs}
 use Rattle.agent.proofs.builder.Statement.{statement}
 use Rattle.agent.proofs.builder.Tie as tie
-use Rattle.agent.proofs.builder.Reads as reads
-use Rattle.agent.proofs.builder.Lts as lts
-use Rattle.waits.proofs.RequestRto.default.Reads as default-reads
 
 default-requires : tie.Need-default-requires
 default-requires c κs = search needs

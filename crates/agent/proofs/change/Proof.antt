@@ -5,14 +5,6 @@ use mathlib.Core.Path.{sym, _∙_}
 use borrow.Author.Needs.{needs}
 use Rattle.agent.proofs.change.Statement.{statement}
 use Rattle.agent.proofs.change.Tie as tie
-use Rattle.agent.proofs.change.Reads as reads
-use Rattle.agent.proofs.change.Lts as lts
-use Rattle.agent.proofs.Wish.alter.Reads as alter-reads
-use Rattle.agent.proofs.Wish.is_unfit.Reads as is-unfit-reads
-use Rattle.agent.proofs.done.Reads as done-reads
-use Rattle.agent.proofs.refused.Reads as refused-reads
-use Rattle.table.proofs.find.Reads as find-reads
-use Rattle.table.proofs.replace.Reads as replace-reads
 
 is-unfit-requires : tie.Need-is-unfit-requires
 is-unfit-requires c κs = search needs

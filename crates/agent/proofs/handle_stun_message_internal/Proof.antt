@@ -6,23 +6,6 @@ use Rattle.agent.proofs.Received.{receives-late, receives-bad, receives
 use borrow.Author.Needs.{needs}
 use Rattle.agent.proofs.handle_stun_message_internal.Statement.{statement}
 use Rattle.agent.proofs.handle_stun_message_internal.Tie as tie
-use Rattle.agent.proofs.handle_stun_message_internal.Reads as reads
-use Rattle.agent.proofs.handle_stun_message_internal.Lts as lts
-use Rattle.agent.proofs.Clock.is_past.Reads as is-past-reads
-use Rattle.agent.proofs.Clock.mark.Reads as mark-reads
-use Rattle.agent.proofs.Clock.round_trip.Reads as round-trip-reads
-use Rattle.agent.proofs.done.Reads as done-reads
-use Rattle.agent.proofs.event_of.Reads as event-of-reads
-use Rattle.agent.proofs.is_crowded.Reads as is-crowded-reads
-use Rattle.agent.proofs.is_response.Reads as is-response-reads
-use Rattle.agent.proofs.peers_after.Reads as peers-after-reads
-use Rattle.agent.proofs.place_of.Reads as place-of-reads
-use Rattle.agent.proofs.received_as.Reads as received-as-reads
-use Rattle.agent.proofs.refused.Reads as refused-reads
-use Rattle.agent.proofs.wide.Reads as wide-reads
-use Rattle.message.proofs.Message.from_bytes.Reads as from-bytes-reads
-use Rattle.table.proofs.find.Reads as find-reads
-use Rattle.table.proofs.remove.Reads as remove-reads
 
 is-past-requires : tie.Need-is-past-requires
 is-past-requires c κs = search needs

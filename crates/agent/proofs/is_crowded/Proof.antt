@@ -3,8 +3,6 @@ use Rattle.agent.proofs.Received.{crowded-new}
 use borrow.Author.Needs.{needs}
 use Rattle.agent.proofs.is_crowded.Statement.{statement}
 use Rattle.agent.proofs.is_crowded.Tie as tie
-use Rattle.agent.proofs.is_crowded.Reads as reads
-use Rattle.agent.proofs.is_crowded.Lts as lts
 
 returns : tie.Need-returns
 returns c = search needs

@@ -3,8 +3,6 @@ use native.Mathlib.Omega.{arith}
 use Rattle.agent.proofs.Table.{late-past, late-mark}
 use Rattle.agent.proofs.is_late.Statement.{statement}
 use Rattle.agent.proofs.is_late.Tie as tie
-use Rattle.agent.proofs.is_late.Reads as reads
-use Rattle.agent.proofs.is_late.Lts as lts
 
 returns : tie.Need-returns
 returns c = late-past (c .before .args .agent) (c .before .args .now) (omega arith)

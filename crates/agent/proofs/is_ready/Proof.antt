@@ -5,10 +5,6 @@ use Rattle.agent.proofs.Ready.{short-table, short-store, crowded, late,
 use borrow.Author.Needs.{needs}
 use Rattle.agent.proofs.is_ready.Statement.{statement}
 use Rattle.agent.proofs.is_ready.Tie as tie
-use Rattle.agent.proofs.is_ready.Reads as reads
-use Rattle.agent.proofs.is_ready.Lts as lts
-use Rattle.formed.proofs.is_formed.Reads as is-formed-reads
-use Rattle.waits.proofs.RequestRto.within_limits.Reads as within-limits-reads
 
 mul-if1 : tie.Need-mul-if1
 mul-if1 c = search needs

@@ -4,9 +4,6 @@ use mathlib.Core.Path.{_∙_}
 use borrow.Author.Needs.{needs}
 use Rattle.agent.proofs.is_validated_peer.Statement.{statement}
 use Rattle.agent.proofs.is_validated_peer.Tie as tie
-use Rattle.agent.proofs.is_validated_peer.Reads as reads
-use Rattle.agent.proofs.is_validated_peer.Lts as lts
-use Rattle.agent.proofs.done.Reads as done-reads
 
 done-requires : tie.Need-done-requires
 done-requires c κs = search needs

@@ -2,15 +2,10 @@
 use Rattle.agent.proofs.Calls.{counts-settled, counts-unsettled, counts-off}
 use Rattle.model.specs.Calls.{unsettled}
 use mathlib.Core.Path.{sym, _∙_}
-use Rattle.agent.proofs.Calls.{counts-unsettled, counts-below, counts-off}
+use Rattle.agent.proofs.Calls.{counts-unsettled, counts-off}
 use borrow.Author.Needs.{needs}
 use Rattle.agent.proofs.outstanding_requests.Statement.{statement}
 use Rattle.agent.proofs.outstanding_requests.Tie as tie
-use Rattle.agent.proofs.outstanding_requests.Reads as reads
-use Rattle.agent.proofs.outstanding_requests.Lts as lts
-use Rattle.agent.proofs.done.Reads as done-reads
-use Rattle.agent.proofs.refused.Reads as refused-reads
-use Rattle.stats.proofs.StunAgentStats.outstanding_requests.Reads as outstanding-requests-reads
 
 outstanding-requests-requires : tie.Need-outstanding-requests-requires
 outstanding-requests-requires c κs = search needs

@@ -4,8 +4,6 @@ use Rattle.agent.proofs.Received.{room-left, new-count}
 use borrow.Author.Needs.{needs}
 use Rattle.agent.proofs.peers_after.Statement.{statement}
 use Rattle.agent.proofs.peers_after.Tie as tie
-use Rattle.agent.proofs.peers_after.Reads as reads
-use Rattle.agent.proofs.peers_after.Lts as lts
 
 returns : tie.Need-returns
 returns c = search needs

@@ -3,8 +3,6 @@ use Rattle.agent.proofs.Received.{new-place}
 use borrow.Author.Needs.{needs}
 use Rattle.agent.proofs.place_of.Statement.{statement}
 use Rattle.agent.proofs.place_of.Tie as tie
-use Rattle.agent.proofs.place_of.Reads as reads
-use Rattle.agent.proofs.place_of.Lts as lts
 
 returns : tie.Need-returns
 returns c = search needs

@@ -10,14 +10,6 @@ use Rattle.agent.proofs.Scans.{scans-late, reports-done, noted-as, note
 use borrow.Author.Needs.{needs}
 use Rattle.agent.proofs.poll.Statement.{statement}
 use Rattle.agent.proofs.poll.Tie as tie
-use Rattle.agent.proofs.poll.Reads as reads
-use Rattle.agent.proofs.poll.Lts as lts
-use Rattle.agent.proofs.done.Reads as done-reads
-use Rattle.agent.proofs.event_of.Reads as event-of-reads
-use Rattle.agent.proofs.is_late.Reads as is-late-reads
-use Rattle.agent.proofs.refused.Reads as refused-reads
-use Rattle.table.proofs.poll.Reads as poll-reads
-use Rattle.table.proofs.remove.Reads as remove-reads
 
 is-late-requires : tie.Need-is-late-requires
 is-late-requires c κs = search needs

@@ -7,15 +7,6 @@ use Rattle.model.specs.Calls.{transmits}
 use borrow.Author.Needs.{needs}
 use Rattle.agent.proofs.poll_transmit.Statement.{statement}
 use Rattle.agent.proofs.poll_transmit.Tie as tie
-use Rattle.agent.proofs.poll_transmit.Reads as reads
-use Rattle.agent.proofs.poll_transmit.Lts as lts
-use Rattle.agent.proofs.done.Reads as done-reads
-use Rattle.agent.proofs.event_of.Reads as event-of-reads
-use Rattle.agent.proofs.handed_out.Reads as handed-out-reads
-use Rattle.agent.proofs.is_late.Reads as is-late-reads
-use Rattle.agent.proofs.refused.Reads as refused-reads
-use Rattle.agent.proofs.wide.Reads as wide-reads
-use Rattle.table.proofs.poll_transmit.Reads as poll-transmit-reads
 
 is-late-requires : tie.Need-is-late-requires
 is-late-requires c κs = search needs

@@ -5,10 +5,6 @@ use mathlib.Core.Path.{refl, _∙_}
 use borrow.Author.Needs.{needs}
 use Rattle.agent.proofs.read_stats.Statement.{statement}
 use Rattle.agent.proofs.read_stats.Tie as tie
-use Rattle.agent.proofs.read_stats.Reads as reads
-use Rattle.agent.proofs.read_stats.Lts as lts
-use Rattle.agent.proofs.done.Reads as done-reads
-use Rattle.agent.proofs.refused.Reads as refused-reads
 
 done-requires : tie.Need-done-requires
 done-requires c κs = search needs

@@ -5,11 +5,6 @@ use mathlib.Core.Path.{sym, _∙_}
 use borrow.Author.Needs.{needs}
 use Rattle.agent.proofs.request_transaction.Statement.{statement}
 use Rattle.agent.proofs.request_transaction.Tie as tie
-use Rattle.agent.proofs.request_transaction.Reads as reads
-use Rattle.agent.proofs.request_transaction.Lts as lts
-use Rattle.agent.proofs.done.Reads as done-reads
-use Rattle.agent.proofs.refused.Reads as refused-reads
-use Rattle.table.proofs.find.Reads as find-reads
 
 find-requires : tie.Need-find-requires
 find-requires c κs = searchable _ _ (c .before .pre)

@@ -5,11 +5,6 @@ use mathlib.Core.Path.{_∙_}
 use borrow.Author.Needs.{needs}
 use Rattle.agent.proofs.rtt_average.Statement.{statement}
 use Rattle.agent.proofs.rtt_average.Tie as tie
-use Rattle.agent.proofs.rtt_average.Reads as reads
-use Rattle.agent.proofs.rtt_average.Lts as lts
-use Rattle.agent.proofs.done.Reads as done-reads
-use Rattle.agent.proofs.refused.Reads as refused-reads
-use Rattle.stats.proofs.StunAgentStats.rtt_average.Reads as rtt-average-reads
 
 rtt-average-requires : tie.Need-rtt-average-requires
 rtt-average-requires c κs = search needs

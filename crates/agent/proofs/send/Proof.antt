@@ -4,15 +4,6 @@ use mathlib.Core.Path.{sym, _∙_}
 use borrow.Author.Needs.{needs}
 use Rattle.agent.proofs.send.Statement.{statement}
 use Rattle.agent.proofs.send.Tie as tie
-use Rattle.agent.proofs.send.Reads as reads
-use Rattle.agent.proofs.send.Lts as lts
-use Rattle.agent.proofs.done.Reads as done-reads
-use Rattle.agent.proofs.event_of.Reads as event-of-reads
-use Rattle.agent.proofs.is_request.Reads as is-request-reads
-use Rattle.agent.proofs.refused.Reads as refused-reads
-use Rattle.agent.proofs.sent_as.Reads as sent-as-reads
-use Rattle.agent.proofs.wide.Reads as wide-reads
-use Rattle.message.proofs.Message.from_bytes.Reads as from-bytes-reads
 
 from-bytes-requires : tie.Need-from-bytes-requires
 from-bytes-requires c κs = search needs

@@ -4,8 +4,6 @@ use Rattle.model.specs.Effects.{sentAs}
 use borrow.Author.Needs.{needs}
 use Rattle.agent.proofs.sent_as.Statement.{statement}
 use Rattle.agent.proofs.sent_as.Tie as tie
-use Rattle.agent.proofs.sent_as.Reads as reads
-use Rattle.agent.proofs.sent_as.Lts as lts
 
 enum-told : tie.Need-enum-told
 enum-told c = search needs

@@ -1,15 +1,9 @@
 -- `transmission` meets its contract. Assumes nothing.
-use native.Mathlib.Omega.{arith}
 use Rattle.agent.proofs.Ready.{fails, passes, ready-says, few, hands-unready, hands-unused, hands-part}
 use Rattle.agent.proofs.Ready.{ready-says, few, hands-unready, hands-unused, hands-part}
 use borrow.Author.Needs.{needs}
 use Rattle.agent.proofs.transmission.Statement.{statement}
 use Rattle.agent.proofs.transmission.Tie as tie
-use Rattle.agent.proofs.transmission.Reads as reads
-use Rattle.agent.proofs.transmission.Lts as lts
-use Rattle.agent.proofs.is_ready.Reads as is-ready-reads
-use Rattle.formed.proofs.in_use.Reads as in-use-reads
-use Rattle.store.proofs.part.Reads as part-reads
 
 is-ready-requires : tie.Need-is-ready-requires
 is-ready-requires c κs = search needs

@@ -4,10 +4,6 @@ use mathlib.Core.Path.{_∙_}
 use borrow.Author.Needs.{needs}
 use Rattle.agent.proofs.validated_peer.Statement.{statement}
 use Rattle.agent.proofs.validated_peer.Tie as tie
-use Rattle.agent.proofs.validated_peer.Reads as reads
-use Rattle.agent.proofs.validated_peer.Lts as lts
-use Rattle.agent.proofs.done.Reads as done-reads
-use Rattle.agent.proofs.refused.Reads as refused-reads
 
 done-requires : tie.Need-done-requires
 done-requires c κs = search needs

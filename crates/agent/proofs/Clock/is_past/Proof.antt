@@ -4,9 +4,6 @@ use Rattle.agent.specs.Called.{isPast}
 use borrow.Author.Needs.{needs}
 use Rattle.agent.proofs.Clock.is_past.Statement.{statement}
 use Rattle.agent.proofs.Clock.is_past.Tie as tie
-use Rattle.agent.proofs.Clock.is_past.Reads as reads
-use Rattle.agent.proofs.Clock.is_past.Lts as lts
-use Rattle.agent.proofs.is_late.Reads as is-late-reads
 
 enum-known-self : tie.Need-enum-known-self
 enum-known-self c = search needs

@@ -6,9 +6,6 @@ use Rattle.agent.proofs.Received.{timely-at}
 use borrow.Author.Needs.{needs}
 use Rattle.agent.proofs.Clock.round_trip.Statement.{statement}
 use Rattle.agent.proofs.Clock.round_trip.Tie as tie
-use Rattle.agent.proofs.Clock.round_trip.Reads as reads
-use Rattle.agent.proofs.Clock.round_trip.Lts as lts
-use Rattle.request.proofs.StunRequestState.round_trip.Reads as round-trip-reads
 
 enum-known-self : tie.Need-enum-known-self
 enum-known-self c = search needs

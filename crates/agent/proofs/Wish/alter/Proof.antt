@@ -5,11 +5,6 @@ use Rattle.agent.specs.declared.Wish.{Wish}
 use borrow.Author.Needs.{needs}
 use Rattle.agent.proofs.Wish.alter.Statement.{statement}
 use Rattle.agent.proofs.Wish.alter.Tie as tie
-use Rattle.agent.proofs.Wish.alter.Reads as reads
-use Rattle.agent.proofs.Wish.alter.Lts as lts
-use Rattle.request.proofs.StunRequestState.cancel.Reads as cancel-reads
-use Rattle.request.proofs.StunRequestState.cancel_retransmissions.Reads as cancel-retransmissions-reads
-use Rattle.request.proofs.StunRequestState.configure_timeout_with_max.Reads as configure-timeout-with-max-reads
 
 enum-told : tie.Need-enum-told
 enum-told c = search needs

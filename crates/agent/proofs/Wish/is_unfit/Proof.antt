@@ -5,9 +5,6 @@ use Rattle.agent.specs.Called.{isUnfit}
 use borrow.Author.Needs.{needs}
 use Rattle.agent.proofs.Wish.is_unfit.Statement.{statement}
 use Rattle.agent.proofs.Wish.is_unfit.Tie as tie
-use Rattle.agent.proofs.Wish.is_unfit.Reads as reads
-use Rattle.agent.proofs.Wish.is_unfit.Lts as lts
-use Rattle.waits.proofs.RequestRto.within_limits.Reads as within-limits-reads
 
 enum-told : tie.Need-enum-told
 enum-told c = search needs

@@ -1,0 +1,9 @@
+-- `Ready` links the test of the state to the model's; the others have a law for each way through a function.
+pub mod Ready
+mod Fresh
+mod Calls
+mod Sends
+mod Table
+mod Named
+mod Scans
+mod Received

@@ -1,0 +1,246 @@
+-- A law for each way through a received message.
+use Prim.Native.Nat.{ℕ, _+_, _^_, _<_}
+use mathlib.Core.Path.{_≡_, refl, sym, ap, _∙_}
+use mathlib.Core.Bool.{Bool, true, false, cond, not, _&&_}
+use mathlib.Core.List.{List}
+use mathlib.Core.Option.{Option, none, some}
+use lib.Dec.{leb, ltb}
+use lib.ListN.{length}
+use borrow.Author.Tests.{ltb-false, leb-false}
+use Rattle.address.specs.declared.Address.{Address}
+use Rattle.message.specs.Head.{key}
+use Rattle.message.specs.Attributes.{messageOf}
+use Rattle.message.specs.declared.MessageClass.{MessageClass}
+use Rattle.message.specs.declared.MessageClass.the-variants.{Request, Indication, Success, Error}
+use Rattle.message.specs.declared.Message.{Message}
+use Rattle.message.specs.declared.Parsed.{Parsed}
+use Rattle.message.specs.declared.Parsed.the-variants.{Good, Bad}
+use Rattle.stats.specs.declared.Rtt.{Rtt}
+use Rattle.stats.specs.declared.StunAgentStats.{StunAgentStats}
+use Rattle.stats.specs.declared.Event.{Event}
+use Rattle.stats.specs.declared.Event.the-variants as event
+use Rattle.request.specs.Limits.{RequestLimits}
+use Rattle.request.specs.declared.StunRequestState.{StunRequestState}
+use Rattle.request.proofs.Limits.{limits-later}
+use Rattle.requests.specs.Search.{lookup}
+use Rattle.requests.specs.declared.Found.{Found}
+use Rattle.requests.specs.declared.Found.the-variants.{At, Nothing}
+use Rattle.requests.proofs.Lists.{neither, apart}
+use Rattle.requests.proofs.Search.{found-at, placed-within}
+use Rattle.records.specs.Live.{live}
+use Rattle.model.specs.World.{known}
+use Rattle.model.specs.Calls.{carries, receives, onSome}
+use Rattle.model.specs.Accepts.{newPeer, onMessage, isFound, isResponse, accepts}
+use Rattle.model.specs.Refusals.{refusalPast}
+use Rattle.model.specs.Effects.{Change, keeps, removes, answered, receivedAs, rttAt, yesOrNo, countAfter, changeOf, answerOf, eventOf, peerCount, after}
+use Rattle.model.specs.declared.StunAgent.{StunAgent}
+use Rattle.model.specs.declared.Answer.the-variants as answer
+use Rattle.agent.specs.Ready.{worldOf, Lent}
+use Rattle.agent.specs.Called.{calledOf, refusedWith, tried, called, noted, unless, changePast, TableAfter, Acts, optionOf, isPast, markBy, rttBy, Timely}
+use Rattle.agent.specs.declared.Called.{Called}
+use Rattle.agent.specs.declared.Clock.{Clock}
+use Rattle.agent.specs.declared.Clock.the-variants as clock
+use Rattle.agent.specs.declared.Place.{Place}
+use Rattle.agent.specs.declared.Place.the-variants as place
+use Rattle.agent.proofs.Calls.{quiet, moved}
+use Rattle.agent.proofs.Table.{kept-same, table-by}
+
+-- ---- the model's call, by its tests: `late` for the clock, `p` the message, `kn` who is a peer, `acc` what is accepted, `full` whether no place is left
+
+module _ (late : Bool) (p : Parsed) (kn : Address → Bool) (acc : Message → Bool) (ev : Message → Event) (ch : Message → Change) (full : Bool) (a : StunAgent) (from : Address) (mark : ℕ) where
+  abbrev joins : Option Address
+  joins = onSome (onMessage p none (λ x. cond (acc x) (some from) none)) none (λ b. cond (kn b) none (some b))
+
+  abbrev number : ℕ
+  number =
+      cond late 3 (cond (onMessage p true (λ x. false)) 5 (cond (onMessage p false (λ x. false)) 6 (cond (onSome joins false (λ b. full)) 10 0)))
+
+  abbrev hears : Called
+  hears =
+      tried number a
+      (calledOf (moved a mark (countAfter (onMessage p keeps ch) (a .requests)) (onSome joins (a .peers) (λ b. a .peers + 1))) (onMessage p answer.No (λ x. yesOrNo (acc x))) (noted a (onMessage p event.Nothing ev)) (onSome joins place.Nowhere (λ b. place.At (a .peers))))
+
+  abbrev turns : Change
+  turns = unless number (onMessage p keeps ch)
+
+  hears-late : late ≡ true → refusedWith a 3 ≡ hears
+  hears-late e = rw e
+
+  late-keeps : late ≡ true → turns ≡ keeps
+  late-keeps e = rw e
+
+  hears-bad : late ≡ false → p ≡ Bad → refusedWith a 5 ≡ hears
+  hears-bad e f = rw (e, f)
+
+  bad-keeps : late ≡ false → p ≡ Bad → turns ≡ keeps
+  bad-keeps e f = rw (e, f)
+
+  module _ (x : Message) (e : late ≡ false) (f : p ≡ Good x) where
+    hears-none : acc x ≡ false → ch x ≡ keeps → ev x ≡ event.Nothing → calledOf (moved a mark (a .requests) (a .peers)) answer.No event.Nothing place.Nowhere ≡ hears
+    hears-none g h i = rw (e, f, g, h, i, quiet (a .stats))
+
+    none-keeps : acc x ≡ false → ch x ≡ keeps → turns ≡ keeps
+    none-keeps g h = rw (e, f, g, h)
+
+    hears-full : acc x ≡ true → (k : Bool) → kn from ≡ k → (not k && full) ≡ true → refusedWith a 10 ≡ hears
+    hears-full g true h i = apart (sym i)
+    hears-full g false h i = rw (e, f, g, h, i)
+
+    full-keeps : acc x ≡ true → (k : Bool) → kn from ≡ k → (not k && full) ≡ true → turns ≡ keeps
+    full-keeps g true h i = apart (sym i)
+    full-keeps g false h i = rw (e, f, g, h, i)
+
+    hears-yes : acc x ≡ true → (k : Bool) → kn from ≡ k → (not k && full) ≡ false
+        → calledOf (moved a mark (countAfter (ch x) (a .requests)) (cond k (a .peers) (a .peers + 1))) answer.Yes (noted a (ev x)) (cond k place.Nowhere (place.At (a .peers))) ≡ hears
+    hears-yes g true h i = rw (e, f, g, h)
+    hears-yes g false h i = rw (e, f, g, h, i)
+
+    yes-turns : acc x ≡ true → (k : Bool) → kn from ≡ k → (not k && full) ≡ false → turns ≡ ch x
+    yes-turns g true h i = rw (e, f, g, h)
+    yes-turns g false h i = rw (e, f, g, h, i)
+
+-- ---- what is accepted, by the class and what was found
+
+plain-event : (n : ℕ) (r s : Rtt) (c : MessageClass) → isResponse c ≡ false → receivedAs n r c ≡ receivedAs n s c
+plain-event n r s Request e = refl
+plain-event n r s Indication e = refl
+plain-event n r s Success e = apart e
+plain-event n r s Error e = apart e
+
+module _ (l : List StunRequestState) (from : Address) (x : Message) where
+  plain-accepted : isResponse (x .class) ≡ false → accepts l from x ≡ true
+  unfolding accepts
+  plain-accepted e = rw e
+
+  answer-accepted : isResponse (x .class) ≡ true → (f : Found) → lookup (key (x .«transaction_id»)) l ≡ f → accepts l from x ≡ isFound f
+  unfolding accepts
+  answer-accepted e f g = rw (e, g)
+
+  plain-change : isResponse (x .class) ≡ false → answered l from x ≡ keeps
+  plain-change e = rw (plain-accepted e, e)
+
+  found-change : isResponse (x .class) ≡ true → (i : ℕ) (q : StunRequestState) → lookup (key (x .«transaction_id»)) l ≡ At i q → answered l from x ≡ removes i
+  found-change e i q g = rw (answer-accepted e (At i q) g, e, g)
+
+  none-change : isResponse (x .class) ≡ true → lookup (key (x .«transaction_id»)) l ≡ Nothing → answered l from x ≡ keeps
+  none-change e g = rw (answer-accepted e Nothing g)
+
+  abbrev counts : ℕ → Option ℕ → Event
+  counts n clk = cond (accepts l from x) (receivedAs n (rttAt clk (lookup (key (x .«transaction_id»)) l)) (x .class)) event.Nothing
+
+  plain-counts : (n : ℕ) (clk : Option ℕ) (r : Rtt) → isResponse (x .class) ≡ false → receivedAs n r (x .class) ≡ counts n clk
+  plain-counts n clk r e =
+      plain-event n r (rttAt clk (lookup (key (x .«transaction_id»)) l)) (x .class) e
+      ∙ ap (λ (b : Bool). cond b (receivedAs n (rttAt clk (lookup (key (x .«transaction_id»)) l)) (x .class)) event.Nothing) (sym (plain-accepted e))
+
+  found-counts : (n : ℕ) (c : Clock) → isResponse (x .class) ≡ true → (i : ℕ) (q : StunRequestState) → lookup (key (x .«transaction_id»)) l ≡ At i q
+      → receivedAs n (rttBy c q) (x .class) ≡ counts n (optionOf c)
+  found-counts n c e i q g =
+      ap (λ (f : Found). receivedAs n (rttAt (optionOf c) f) (x .class)) (sym g)
+      ∙ ap (λ (b : Bool). cond b (receivedAs n (rttAt (optionOf c) (lookup (key (x .«transaction_id»)) l)) (x .class)) event.Nothing) (sym (answer-accepted e (At i q) g))
+
+  none-counts : (n : ℕ) (clk : Option ℕ) → isResponse (x .class) ≡ true → lookup (key (x .«transaction_id»)) l ≡ Nothing → counts n clk ≡ event.Nothing
+  none-counts n clk e g = rw (answer-accepted e Nothing g)
+
+-- ---- the ways
+
+-- What is counted, as the code has it.
+counted-as : (a next : StunAgent) (p : Place) (n len : ℕ) (r s : Rtt) (c : MessageClass) (f e z : Event) → n ≡ len → r ≡ s → f ≡ receivedAs n r c → e ≡ noted a f → receivedAs len s c ≡ z
+    → calledOf next answer.Yes e p ≡ calledOf next answer.Yes (noted a z) p
+counted-as a next p n len r s c f e z g h i j k = ap (λ (y : Event). calledOf next answer.Yes y p) (j ∙ ap (noted a) (i ∙ ap (λ (y : ℕ). receivedAs y r c) g ∙ ap (λ (y : Rtt). receivedAs len y c) h ∙ k))
+
+module _ (a : StunAgent) (t : List ℕ) (from : Address) (is : Bool) (places : ℕ) (c : Clock) (m store : List ℕ) (peers : List Address) (st : StunAgentStats) (r : Called) (fits : length peers ≡ places) (k : known (worldOf a t store peers st) from ≡ is) where
+  abbrev reqs : List StunRequestState
+  reqs = live (a .requests) t
+
+  abbrev Done : List ℕ → Type 0
+  Done t′ = Acts (worldOf a t store peers st) (carries (receives from (optionOf c))) m t t′ r
+
+  crowd : (b : Bool) → (not is && leb places (a .peers)) ≡ b → (not is && leb (length peers) (a .peers)) ≡ b
+  crowd b e = ap (λ (n : ℕ). not is && leb n (a .peers)) fits ∙ e
+
+  pub receives-late : isPast a c ≡ true → r ≡ refusedWith a 3 → Done t
+  unfolding called changePast refusalPast newPeer after changeOf peerCount answerOf eventOf
+  receives-late e f = record {
+    says = f ∙ hears-late (isPast a c) (messageOf m) (known (worldOf a t store peers st)) (accepts reqs from) (λ x. counts reqs from x (length m) (optionOf c)) (answered reqs from) (leb (length peers) (a .peers)) a from (markBy a c) e;
+    then = table-by (a .transport) (a .requests) t t _ keeps (late-keeps (isPast a c) (messageOf m) (known (worldOf a t store peers st)) (accepts reqs from) (λ x. counts reqs from x (length m) (optionOf c)) (answered reqs from) (leb (length peers) (a .peers)) a from (markBy a c) e) (kept-same (a .transport) (a .requests) t);
+  }
+
+  pub receives-bad : isPast a c ≡ false → messageOf m ≡ Bad → r ≡ refusedWith a 5 → Done t
+  unfolding called changePast refusalPast newPeer after changeOf peerCount answerOf eventOf
+  receives-bad e g f = record {
+    says = f ∙ hears-bad (isPast a c) (messageOf m) (known (worldOf a t store peers st)) (accepts reqs from) (λ x. counts reqs from x (length m) (optionOf c)) (answered reqs from) (leb (length peers) (a .peers)) a from (markBy a c) e g;
+    then = table-by (a .transport) (a .requests) t t _ keeps (bad-keeps (isPast a c) (messageOf m) (known (worldOf a t store peers st)) (accepts reqs from) (λ x. counts reqs from x (length m) (optionOf c)) (answered reqs from) (leb (length peers) (a .peers)) a from (markBy a c) e g) (kept-same (a .transport) (a .requests) t);
+  }
+
+  module _ (x : Message) (e : isPast a c ≡ false) (g : messageOf m ≡ Good x) where
+    refused-full : accepts reqs from x ≡ true → (not is && leb places (a .peers)) ≡ true → r ≡ refusedWith a 10 → Done t
+    unfolding called changePast refusalPast newPeer after changeOf peerCount answerOf eventOf
+    refused-full h i f = record {
+      says = f ∙ hears-full (isPast a c) (messageOf m) (known (worldOf a t store peers st)) (accepts reqs from) (λ x. counts reqs from x (length m) (optionOf c)) (answered reqs from) (leb (length peers) (a .peers)) a from (markBy a c) x e g h is k (crowd true i);
+      then = table-by (a .transport) (a .requests) t t _ keeps (full-keeps (isPast a c) (messageOf m) (known (worldOf a t store peers st)) (accepts reqs from) (λ x. counts reqs from x (length m) (optionOf c)) (answered reqs from) (leb (length peers) (a .peers)) a from (markBy a c) x e g h is k (crowd true i)) (kept-same (a .transport) (a .requests) t);
+    }
+
+    accepted : (t′ : List ℕ) (d : Change) → accepts reqs from x ≡ true → answered reqs from x ≡ d → (not is && leb places (a .peers)) ≡ false → TableAfter (a .transport) d (a .requests) t t′
+        → r ≡ calledOf (moved a (markBy a c) (countAfter d (a .requests)) (cond is (a .peers) (a .peers + 1))) answer.Yes (noted a (counts reqs from x (length m) (optionOf c))) (cond is place.Nowhere (place.At (a .peers))) → Done t′
+    unfolding called changePast refusalPast newPeer after changeOf peerCount answerOf eventOf
+    accepted t′ d h j i y f = record {
+      says =
+          f ∙ ap (λ (z : Change). calledOf (moved a (markBy a c) (countAfter z (a .requests)) (cond is (a .peers) (a .peers + 1))) answer.Yes (noted a (counts reqs from x (length m) (optionOf c))) (cond is place.Nowhere (place.At (a .peers)))) (sym j)
+          ∙ hears-yes (isPast a c) (messageOf m) (known (worldOf a t store peers st)) (accepts reqs from) (λ x. counts reqs from x (length m) (optionOf c)) (answered reqs from) (leb (length peers) (a .peers)) a from (markBy a c) x e g h is k (crowd false i);
+      then = table-by (a .transport) (a .requests) t t′ _ d (yes-turns (isPast a c) (messageOf m) (known (worldOf a t store peers st)) (accepts reqs from) (λ x. counts reqs from x (length m) (optionOf c)) (answered reqs from) (leb (length peers) (a .peers)) a from (markBy a c) x e g h is k (crowd false i) ∙ j) y;
+    }
+
+    pub receives-none : isResponse (x .class) ≡ true → lookup (key (x .«transaction_id»)) reqs ≡ Nothing
+        → (mark : ℕ) → mark ≡ markBy a c → r ≡ calledOf (moved a mark (a .requests) (a .peers)) answer.No event.Nothing place.Nowhere → Done t
+    unfolding called changePast refusalPast newPeer after changeOf peerCount answerOf eventOf
+    receives-none h i mark j f = record {
+      says =
+          f ∙ ap (λ (z : ℕ). calledOf (moved a z (a .requests) (a .peers)) answer.No event.Nothing place.Nowhere) j
+          ∙ hears-none (isPast a c) (messageOf m) (known (worldOf a t store peers st)) (accepts reqs from) (λ x. counts reqs from x (length m) (optionOf c)) (answered reqs from) (leb (length peers) (a .peers)) a from (markBy a c) x e g (answer-accepted reqs from x h Nothing i) (none-change reqs from x h i) (none-counts reqs from x (length m) (optionOf c) h i);
+      then = table-by (a .transport) (a .requests) t t _ keeps (none-keeps (isPast a c) (messageOf m) (known (worldOf a t store peers st)) (accepts reqs from) (λ x. counts reqs from x (length m) (optionOf c)) (answered reqs from) (leb (length peers) (a .peers)) a from (markBy a c) x e g (answer-accepted reqs from x h Nothing i) (none-change reqs from x h i)) (kept-same (a .transport) (a .requests) t);
+    }
+
+    pub plain-full : isResponse (x .class) ≡ false → (not is && leb places (a .peers)) ≡ true → r ≡ refusedWith a 10 → Done t
+    plain-full h i f = refused-full (plain-accepted reqs from x h) i f
+
+    pub found-full : (i : ℕ) (q : StunRequestState) → isResponse (x .class) ≡ true → lookup (key (x .«transaction_id»)) reqs ≡ At i q
+        → (not is && leb places (a .peers)) ≡ true → r ≡ refusedWith a 10 → Done t
+    found-full i q h j l f = refused-full (answer-accepted reqs from x h (At i q) j) l f
+
+    module _ (n mark joined : ℕ) (f v : Event) (pl : Place) (crowd : (not is && leb places (a .peers)) ≡ false) (len-is : n ≡ length m) (mark-is : mark ≡ markBy a c) (joined-is : joined ≡ cond is (a .peers) (a .peers + 1)) (noted-is : v ≡ noted a f) (place-is : pl ≡ cond is place.Nowhere (place.At (a .peers))) where
+      pub plain-yes : (s : Rtt) → isResponse (x .class) ≡ false → f ≡ receivedAs n s (x .class) → r ≡ calledOf (moved a mark (a .requests) joined) answer.Yes v pl → Done t
+      plain-yes s h i z =
+          accepted t keeps (plain-accepted reqs from x h) (plain-change reqs from x h) crowd (kept-same (a .transport) (a .requests) t)
+          (rw (← mark-is, ← joined-is, ← place-is) (z ∙ counted-as a (moved a mark (a .requests) joined) pl n (length m) s s (x .class) f v _ len-is refl i noted-is (plain-counts reqs from x (length m) (optionOf c) s h)))
+
+      pub found-yes : (t′ : List ℕ) (i : ℕ) (q : StunRequestState) (s : Rtt) → isResponse (x .class) ≡ true → lookup (key (x .«transaction_id»)) reqs ≡ At i q
+          → s ≡ rttBy c q → TableAfter (a .transport) (removes i) (a .requests) t t′ → f ≡ receivedAs n s (x .class)
+          → r ≡ calledOf (moved a mark (countAfter (removes i) (a .requests)) joined) answer.Yes v pl → Done t′
+      found-yes t′ i q s h j u y w z =
+          accepted t′ (removes i) (answer-accepted reqs from x h (At i q) j) (found-change reqs from x h i q j) crowd y
+          (rw (← mark-is, ← joined-is, ← place-is) (z ∙ counted-as a (moved a mark (countAfter (removes i) (a .requests)) joined) pl n (length m) s (rttBy c q) (x .class) f v _ len-is u w noted-is (found-counts reqs from x (length m) c h i q j)))
+
+-- The request was last sent no later than the clock, which isn't below the mark.
+pub timely : (a : StunAgent) (t : List ℕ) → Lent a t → (c : Clock) → isPast a c ≡ false → (k i : ℕ) (q : StunRequestState) → lookup k (live (a .requests) t) ≡ At i q → Timely c q
+timely a t s (clock.At now) e k i q f =
+    limits-later 32 (a .mark) now q (ltb-false now (a .mark) (neither (ltb (2 ^ 60) now) (ltb now (a .mark)) e .1))
+    (placed-within 32 (a .mark) (live (a .requests) t) i q (s .requests .within) (found-at k i q (live (a .requests) t) f .placed))
+timely a t s clock.Absent e k i q f = tt
+
+pub timely-at : (c : Clock) (now : ℕ) (q : StunRequestState) → c ≡ clock.At now → Timely c q → RequestLimits 32 now q
+timely-at c now q e x = rw e at x
+
+-- ---- the parts
+
+pub crowded-new : (k full : Bool) → k ≡ false → full ≡ (not k && full)
+crowded-new k full e = rw e
+
+pub new-place : (k : Bool) (n : ℕ) → k ≡ false → place.At n ≡ cond k place.Nowhere (place.At n)
+new-place k n e = rw e
+
+pub new-count : (k : Bool) (n : ℕ) → k ≡ false → n + 1 ≡ cond k n (n + 1)
+new-count k n e = rw e
+
+pub room-left : (k : Bool) (n places : ℕ) → k ≡ false → (not k && leb places n) ≡ false → n < places
+room-left k n places e f = leb-false places n (rw e at f)

@@ -3,9 +3,9 @@
 --     ready-says      what the calls over the table ask
 use Prim.Native.Nat.{ℕ, _*_, _^_, _≤_, _<_}
 use mathlib.Core.Path.{_≡_, refl, sym, ap, _∙_}
-use mathlib.Core.Bool.{Bool, true, false, cond, not, _&&_, _||_, and-eq-true-iff}
-use mathlib.Core.List.{List, [], _∷_}
-use lib.Dec.{leb, eqb}
+use mathlib.Core.Bool.{Bool, true, false, cond, not, _&&_, and-eq-true-iff}
+use mathlib.Core.List.{List, []}
+use lib.Dec.{leb}
 use lib.ListN.{length}
 use borrow.Author.Tests.{le-leb, lt-leb, leb-true, eq-eqb}
 use Rattle.address.specs.declared.Address.{Address}
@@ -13,7 +13,6 @@ use Rattle.waits.specs.Waits.{withinLimits}
 use Rattle.waits.proofs.Limits.{within-limits}
 use Rattle.stats.specs.declared.StunAgentStats.{StunAgentStats}
 use Rattle.store.specs.Rows.{partOf}
-use Rattle.request.specs.declared.StunRequestState.{StunRequestState}
 use Rattle.requests.specs.Formed.{formed}
 use Rattle.requests.proofs.Formed.{formed-exactly}
 use Rattle.records.specs.Coding.{size}

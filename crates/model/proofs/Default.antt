@@ -1,0 +1,66 @@
+-- An agent built with its settings left unset ends the last wait 8,000 ms after the last send: RFC 8489's default, where the Rust has
+-- 8 ms.
+--     build-refused, build-fresh    what `build` answers
+--     built-unset          settings left unset are the default's, and are never refused
+--     accepted-settings    an accepted request has its agent's settings
+--     last-wait-ends       such a request, all steps passed, has timed out exactly from 8,000 ms after its last send on
+--     only-wait-ends       by TCP from 39,500 ms after its only send on
+use Prim.Native.Nat.{ℕ, _+_, _≤_}
+use mathlib.Core.Path.{_≡_, ap, _∙_}
+use mathlib.Core.Bool.{true, false}
+use mathlib.Core.Logic.{_↔_}
+use mathlib.Core.List.{List}
+use lib.ListN.{length}
+use Rattle.address.specs.declared.Address.{Address}
+use Rattle.waits.specs.Waits.{milliseconds, defaultRto, withinLimits, finalWait}
+use Rattle.waits.specs.declared.Transport.{Transport}
+use Rattle.waits.specs.declared.Transport.the-variants.{Udp, Tcp}
+use Rattle.waits.specs.declared.RequestRto.{RequestRto}
+use Rattle.waits.proofs.Limits.{within-limits}
+use Rattle.waits.proofs.Doubling.{default-final, default-span-stream}
+use Rattle.request.specs.Times.{passedAll}
+use Rattle.request.specs.Request.{pollOf}
+use Rattle.request.specs.declared.SendTimes.the-variants.{Sent}
+use Rattle.request.specs.declared.StunRequestState.{StunRequestState}
+use Rattle.request.specs.declared.StunRequestPollRet.the-variants.{TimedOut}
+use Rattle.model.specs.World.{World}
+use Rattle.model.specs.Refusals.{SETTINGS, numberOf}
+use Rattle.model.specs.Says.{Said, freshAgent, freshEvent, unset, buildOf}
+use Rattle.model.specs.declared.StunAgentBuilder.{StunAgentBuilder}
+use Rattle.model.specs.declared.Built.the-variants.{Refused, Fresh}
+use Rattle.model.proofs.Below.{default-limits, timed-out-exactly, submission}
+use Rattle.model.proofs.Store.{RequestAccepted}
+
+module _ (b : StunAgentBuilder) where
+  pub build-refused : withinLimits (b .rto) ≡ false → buildOf b ≡ Refused (numberOf SETTINGS)
+  unfolding buildOf
+  build-refused e = rw e
+
+  pub build-fresh : withinLimits (b .rto) ≡ true → buildOf b ≡ Fresh (freshAgent (b .transport) (b .stats) (b .rto)) (freshEvent (b .stats))
+  unfolding buildOf
+  build-fresh e = rw e
+
+  -- Whatever else was set.
+  pub built-unset : b .rto ≡ unset (b .transport) .rto → buildOf b ≡ Fresh (freshAgent (b .transport) (b .stats) defaultRto) (freshEvent (b .stats))
+  built-unset e =
+      build-fresh (ap withinLimits e ∙ within-limits defaultRto .1 default-limits)
+      ∙ ap (λ (rto : RequestRto). Fresh (freshAgent (b .transport) (b .stats) rto) (freshEvent (b .stats))) e
+
+pub accepted-settings : (rows : ℕ) (w : World) (to : Address) (now : ℕ) (m : List ℕ) (s : Said) (a : RequestAccepted rows w to now m s)
+    → a .request .rto ≡ w .agent .rto
+accepted-settings rows w to now m s a =
+    ap (λ (r : StunRequestState). r .rto) (a .request-is)
+    ∙ submission now (a .message .«transaction_id») (a .message .integrity) (a .row) (length m) to (w .agent .rto) .rto-is
+
+-- A request with the default settings that wasn't cancelled and has no step left.
+module _ (now : ℕ) (r : StunRequestState) (first last : ℕ) (sent : r .«send_times» ≡ Sent first last) (kept : r .«recv_cancelled» ≡ false) (default : r .rto ≡ defaultRto) where
+  final : (t : Transport) (wait : ℕ) → finalWait t defaultRto ≡ wait → passedAll t r ≡ true → (pollOf t now r ≡ TimedOut) ↔ (last + wait ≤ now)
+  final t wait e passed =
+      let z : finalWait t (r .rto) ≡ wait = ap (finalWait t) default ∙ e in
+      rw z at (timed-out-exactly t now r first last sent passed kept)
+
+  pub last-wait-ends : passedAll Udp r ≡ true → (pollOf Udp now r ≡ TimedOut) ↔ (last + milliseconds 8000 ≤ now)
+  last-wait-ends passed = final Udp (milliseconds 8000) default-final passed
+
+  pub only-wait-ends : passedAll Tcp r ≡ true → (pollOf Tcp now r ≡ TimedOut) ↔ (last + milliseconds 39500 ≤ now)
+  only-wait-ends passed = final Tcp (milliseconds 39500) default-span-stream passed

@@ -1,0 +1,7 @@
+pub mod World
+pub mod Calls
+pub mod Accepts
+pub mod Refusals
+pub mod Effects
+pub mod Says
+pub mod Worked

@@ -1,0 +1,2 @@
+-- Theorems about runs.
+pub mod Times

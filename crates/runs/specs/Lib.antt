@@ -1,0 +1,4 @@
+pub mod Run
+pub mod Round
+pub mod Times
+pub mod Demand

@@ -1,2 +1,3 @@
 -- Theorems about runs.
 pub mod Times
+pub mod Steady

@@ -17,7 +17,7 @@ use Rattle.waits.specs.declared.Transport.the-variants.{Udp, Tcp}
 use Rattle.stats.specs.declared.StunAgentStats.{StunAgentStats}
 use Rattle.model.specs.World.{World}
 use Rattle.model.specs.Calls.{clockOf}
-use Rattle.model.specs.Refusals.{refusalOf}
+use Rattle.model.specs.Refusals.{STATE, CLOCK, numberOf, refusalOf}
 use Rattle.model.specs.Says.{fresh}
 use Rattle.model.specs.Worked.{Turn, with}
 use Rattle.model.specs.declared.Call.the-variants as call
@@ -105,3 +105,11 @@ most Tcp s = 1
 abbrev pub Spaced : RequestRto → List ℕ → Type 0
 Spaced s [] = Unit {0}
 Spaced s (t ∷ ts) = Gaps s 0 t ts
+
+-- No call of a run is refused by 1 or 3.
+abbrev pub NeverBad : ℕ → World → List Turn → Type 0
+NeverBad rows w [] = Unit {0}
+NeverBad rows w (t ∷ ts) =
+    (refusalOf rows w (kindIn t) (t .bytes) ≡ numberOf STATE → ⊥)
+    × (refusalOf rows w (kindIn t) (t .bytes) ≡ numberOf CLOCK → ⊥)
+    × NeverBad rows (said rows w t .world) ts

@@ -1,3 +1,4 @@
 -- Theorems about runs.
 pub mod Times
 pub mod Steady
+pub mod Spared

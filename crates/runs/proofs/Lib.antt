@@ -2,3 +2,4 @@
 pub mod Times
 pub mod Steady
 pub mod Spared
+pub mod One

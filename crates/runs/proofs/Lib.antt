@@ -3,3 +3,4 @@ pub mod Times
 pub mod Steady
 pub mod Spared
 pub mod One
+pub mod Present

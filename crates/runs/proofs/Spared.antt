@@ -3,6 +3,8 @@
 --     Spared                        x's record stays, and the call neither sends x nor reports it
 --     others-spare                  a call that is neither a transmission nor a poll
 --     absent-run                    any run, where x isn't outstanding
+--     Silent                        such a run neither sends x nor reports it, nor is x outstanding after it
+--     ended-other                   a poll that reports another request
 --     scan-said                     a transmission or a poll that isn't refused
 use Prim.Native.Nat.{ℕ, zero, suc, _+_}
 use mathlib.Core.Path.{_≡_, refl, sym, ap, _∙_}
@@ -52,7 +54,7 @@ use Rattle.model.proofs.Below.{submission}
 use Rattle.model.proofs.Refused.{refused-same, passed-does}
 use Rattle.model.proofs.Kept.{says-formed}
 use Rattle.model.proofs.Store.{request-accepted}
-use Rattle.runs.specs.Run.{kindIn, said, handsOutIt, timesOutIt, noted, sendsBy, timeoutsBy, sends, timeouts, answersTo, alters, handles, handledBy}
+use Rattle.runs.specs.Run.{kindIn, said, run, handsOutIt, timesOutIt, noted, sendsBy, timeoutsBy, sends, timeouts, answersTo, alters, handles, handledBy}
 use Rattle.runs.specs.Round.{isScan}
 use Rattle.runs.specs.Demand.{LeftAlone}
 
@@ -221,11 +223,12 @@ module _ (rows x : ℕ) (w : World) (gone : requestOf (lookup x (w .requests)) �
 pub record Silent (rows x : ℕ) (w : World) (ts : List Turn) : Type 0 where
   pub unsent : sends rows x w ts ≡ []
   pub untimed : timeouts rows x w ts ≡ []
+  pub gone : requestOf (lookup x (run rows w ts .requests)) ≡ none
 
 pub absent-run : (rows x : ℕ) (w : World) (ts : List Turn) → StateFormed rows w → LeftAlone rows x w ts → requestOf (lookup x (w .requests)) ≡ none → Silent rows x w ts
-unfolding sends timeouts
-absent-run rows x w [] f h g = record { unsent = refl; untimed = refl }
+unfolding sends timeouts run
+absent-run rows x w [] f h g = record { unsent = refl; untimed = refl; gone = g }
 absent-run rows x w (t ∷ ts) f h g =
     let s = absent-kind rows x w g f t (h .0) (kindIn t) refl in
     let z = absent-run rows x (said rows w t .world) ts (says-formed rows w (kindIn t) (t .bytes) f) (h .1) (s .kept ∙ g) in
-    record { unsent = rw (s .unsent) (z .unsent); untimed = rw (s .untimed) (z .untimed) }
+    record { unsent = rw (s .unsent) (z .unsent); untimed = rw (s .untimed) (z .untimed); gone = z .gone }

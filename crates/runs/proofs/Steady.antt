@@ -2,7 +2,7 @@
 --     Ok, ok-said, next-ok      such a world, and the one after a call
 --     scan-passes               no transmission and no poll of a round is refused
 --     run-append                a run in two parts
---     ok-round, round-world     the world after a round
+--     ok-transmits, ok-round, transmits-world, polls-world, round-world      the world after a round or a part of it
 --     Reaches, reaches          the world after the first steps of a run, and the clocks to come
 --     never-bad                 from such a world no call is refused by 1 or 3
 use Prim.Native.Nat.{ℕ, zero, suc, _^_, _≤_}
@@ -103,12 +103,12 @@ unfolding run
 run-append rows w [] bs = refl
 run-append rows w (t ∷ rs) bs = run-append rows (said rows w t .world) rs bs
 
-transmits-world : {rows now : ℕ} {w v : World} {ts : List Turn} → Transmits rows now w ts v → run rows w ts ≡ v
+pub transmits-world : {rows now : ℕ} {w v : World} {ts : List Turn} → Transmits rows now w ts v → run rows w ts ≡ v
 unfolding run
 transmits-world (none-left e) = refl
 transmits-world (one-more e d) = transmits-world d
 
-polls-world : {rows now clock : ℕ} {w v : World} {ts : List Turn} → Polls rows now w ts v clock → run rows w ts ≡ v
+pub polls-world : {rows now clock : ℕ} {w v : World} {ts : List Turn} → Polls rows now w ts v clock → run rows w ts ≡ v
 unfolding run
 polls-world (told-to-wait e) = refl
 polls-world (one-report e d) = polls-world d
@@ -118,7 +118,7 @@ round-world {rows} {w = w} (round {v} {u} {ts} {ps} a b) =
     run-append rows w ts ps ∙ rw (transmits-world a) (polls-world b)
 
 module _ {rows : ℕ} {tr : Transport} {set : RequestRto} {now : ℕ} where
-  ok-transmits : {w v : World} {ts : List Turn} → Transmits rows now w ts v → (m : ℕ) → m ≤ now → Ok rows tr set m w → Ok rows tr set now v
+  pub ok-transmits : {w v : World} {ts : List Turn} → Transmits rows now w ts v → (m : ℕ) → m ≤ now → Ok rows tr set m w → Ok rows tr set now v
   ok-transmits (none-left {w} e) m l o = ok-said rows tr set m now w (kindIn (transmission now)) [] o l (omega arith)
   ok-transmits (one-more {w} e d) m l o = ok-transmits d now (omega arith) (ok-said rows tr set m now w (kindIn (transmission now)) [] o l (omega arith))
 

@@ -4,3 +4,4 @@ pub mod Steady
 pub mod Spared
 pub mod One
 pub mod Present
+pub mod Demand

@@ -4,7 +4,7 @@
 --     run-append                a run in two parts
 --     ok-transmits, ok-round, transmits-world, polls-world, round-world      the world after a round or a part of it
 --     Reaches, reaches          the world after the first steps of a run, and the clocks to come
---     never-bad                 from such a world no call is refused by 1 or 3
+--     never-append, never-call, never-bad      from such a world no call is refused by 1 or 3
 use Prim.Native.Nat.{ℕ, zero, suc, _^_, _≤_}
 use mathlib.Core.Path.{_≡_, refl, sym, _∙_}
 use mathlib.Core.Bool.{true, false, not, _||_}
@@ -147,7 +147,7 @@ reaches {rows} {tr} {set} (then-round {w} {u} {now} {rs = rs} {ts = ts} a d) res
 
 -- no call is refused by 1 or 3
 
-never-append : (rows : ℕ) (w : World) (rs bs : List Turn) → NeverBad rows w rs → NeverBad rows (run rows w rs) bs → NeverBad rows w (rs ++ bs)
+pub never-append : (rows : ℕ) (w : World) (rs bs : List Turn) → NeverBad rows w rs → NeverBad rows (run rows w rs) bs → NeverBad rows w (rs ++ bs)
 unfolding run
 never-append rows w [] bs a b = b
 never-append rows w (t ∷ rs) bs a b = (a .0, a .1, never-append rows (said rows w t .world) rs bs (a .2) b)

@@ -10,7 +10,7 @@ use Rattle.message.specs.Head.{key}
 use Rattle.message.specs.Attributes.{messageOf}
 use Rattle.message.specs.declared.Message.{Message}
 use Rattle.message.specs.declared.Parsed.the-variants.{Good}
-use Rattle.waits.specs.Waits.{Limits}
+use Rattle.waits.specs.Waits.{Limits, waitsOf}
 use Rattle.waits.specs.declared.RequestRto.{RequestRto}
 use Rattle.waits.specs.declared.Transport.{Transport}
 use Rattle.waits.specs.declared.Transport.the-variants.{Udp, Tcp}
@@ -23,7 +23,7 @@ use Rattle.model.specs.Worked.{Turn, with}
 use Rattle.model.specs.declared.Call.the-variants as call
 use Rattle.runs.specs.Run.{kindIn, said, run, sends, timeouts, handledBy}
 use Rattle.runs.specs.Round.{Step, calls, plays, Runs}
-use Rattle.runs.specs.Times.{NoLater, Gaps}
+use Rattle.runs.specs.Times.{sendTimes, endTime, NoLater, Gaps, listOf}
 
 -- After clock m a step with clock c, if it has one, and then K of the clock reached.
 abbrev pub SteadyAt : Option ℕ → ℕ → (ℕ → Type 0) → Type 0
@@ -113,3 +113,28 @@ NeverBad rows w (t ∷ ts) =
     (refusalOf rows w (kindIn t) (t .bytes) ≡ numberOf STATE → ⊥)
     × (refusalOf rows w (kindIn t) (t .bytes) ≡ numberOf CLOCK → ⊥)
     × NeverBad rows (said rows w t .world) ts
+
+-- The closed form, exported: each send is at the first round at or after the last send plus its wait, and the end likewise.
+pub record ClosedForm (rows x : ℕ) (s : Start) (q : Submission) (post : List Step) (before later : List Turn) : Type 0 where
+  pub sends-are : sendsOf rows x s q before later ≡ q .now ∷ sendTimes (s .rto) (waitsOf (s .transport) (s .rto)) 0 (q .now) (rounds post)
+  pub timeout-is :
+      timeoutOf rows x s q before later ≡ listOf (endTime (s .transport) (s .rto) (waitsOf (s .transport) (s .rto)) 0 (q .now) (rounds post))
+
+-- What demand 3 says of one run of the two.
+pub record EachRun (rows x : ℕ) (s : Start) (q : Submission) (before later : List Turn) : Type 0 where
+  -- "goes out at most max(R,1) times by UDP, once by TCP"
+  pub goes-out-at-most : length (sendsOf rows x s q before later) ≤ most (s .transport) (s .rto)
+  pub once-by-tcp : s .transport ≡ Tcp → sendsOf rows x s q before later ≡ q .now ∷ []
+  -- "gap k is at least min(initial × 2^(k-1), max)"
+  pub gap-at-least : Spaced (s .rto) (sendsOf rows x s q before later)
+  -- no call of it is refused by 1 or 3
+  pub never-bad : NeverBad rows (begins s) (before ++ (submits q ∷ later))
+
+-- Demand 3 of two runs, the second with `before′` and `later′`.
+pub record Demand3 (rows x : ℕ) (s : Start) (q : Submission) (before later before′ later′ : List Turn) : Type 0 where
+  -- "in each run"
+  pub first-run : EachRun rows x s q before later
+  pub second-run : EachRun rows x s q before′ later′
+  -- "each send the first run makes, and its timeout, comes no later in the second"
+  pub each-send-no-later : NoLater (sendsOf rows x s q before′ later′) (sendsOf rows x s q before later)
+  pub timeout-no-later : NoLater (timeoutOf rows x s q before′ later′) (timeoutOf rows x s q before later)

@@ -5,3 +5,5 @@ pub mod Spared
 pub mod One
 pub mod Present
 pub mod Demand
+pub mod Rests
+pub mod Last

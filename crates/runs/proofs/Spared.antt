@@ -5,6 +5,7 @@
 --     absent-run                    any run, where x isn't outstanding
 --     Silent                        such a run neither sends x nor reports it, nor is x outstanding after it
 --     ended-other                   a poll that reports another request
+--     requests-after                the requests after a call that isn't refused
 --     scan-said                     a transmission or a poll that isn't refused
 use Prim.Native.Nat.{ℕ, zero, suc, _+_}
 use mathlib.Core.Path.{_≡_, refl, sym, ap, _∙_}
@@ -90,7 +91,7 @@ refused-spares rows x w k b n e = record {
 }
 
 -- the requests after a call that isn't refused
-requests-after : (rows : ℕ) (w : World) (k : Kind) (b : List ℕ) → refusalOf rows w k b ≡ 0
+pub requests-after : (rows : ℕ) (w : World) (k : Kind) (b : List ℕ) → refusalOf rows w k b ≡ 0
     → saysOf rows w k b .world .requests ≡ changed (w .agent .transport) (changeOf rows w k b) (w .requests)
 unfolding after
 requests-after rows w k b e = rw (passed-does rows w k b e)

@@ -2,3 +2,4 @@ pub mod Run
 pub mod Round
 pub mod Times
 pub mod Demand
+pub mod Last

@@ -209,3 +209,145 @@ module _ (tr : Transport) (now clock : ℕ) (l : List StunRequestState) (early :
     where
       rest : (a b c : Bool) → a ≡ false → b ≡ false → c ≡ false → (a || (b || c)) ≡ false
       rest a b c e f g = rw (e, f, g)
+
+module _ (rows : ℕ) (tr : Transport) (set : RequestRto) (now clock : ℕ) (u : World) (o : Ok rows tr set now u) (early : Earliest tr now (now + hour) (u .requests) clock) where
+  -- the two calls of a round before the wait
+  record Sleeps (soon : ℕ) : Type 0 where
+    sent : said rows u (transmission soon) .answer ≡ answer.None
+    same : said rows u (transmission soon) .world .requests ≡ u .requests
+    told : (again : ℕ) × (said rows (said rows u (transmission soon) .world) (poll soon) .answer ≡ answer.Wait again)
+    still : said rows (said rows u (transmission soon) .world) (poll soon) .world .requests ≡ u .requests
+
+  sleeps : (soon : ℕ) → now ≤ soon → soon < clock → soon ≤ 2 ^ 60 → Sleeps soon
+  sleeps soon a b low =
+      let h = all-asleep tr now clock (u .requests) early soon a b in
+      let s = the-scans rows tr set soon low now a u o in
+      let q = walk-quiet tr soon (u .requests) (none-goes tr now clock (u .requests) early soon (u .requests) h) in
+      let same : said rows u (transmission soon) .world .requests ≡ u .requests =
+      s .walked ∙ ap (λ (z : Walk StunRequestState). z .after) q ∙ none-changes tr now clock (u .requests) early soon (u .requests) h in
+      let p = the-scans rows tr set soon low soon (omega arith) (said rows u (transmission soon) .world) (s .transmitted) in
+      let n = waits-exactly tr soon (u .requests) .1 (none-ends tr now clock (u .requests) early soon (u .requests) h) in
+      let t : pollAll tr soon (said rows u (transmission soon) .world .requests) ≡ WaitUntil (n .0) = rw same (n .1) in
+      record {
+        sent = s .sent ∙ ap (λ (z : Walk StunRequestState). transmitAnswer (z .out)) q;
+        same = same;
+        told = (n .0, p .told ∙ ap pollAnswer t);
+        still = p .polled ∙ ap (λ (z : Polled). changed tr (reported z) (said rows u (transmission soon) .world .requests)) t ∙ same;
+      }
+
+  idle-polls : {soon again : ℕ} {v : World} {ps : List Turn} → Sleeps soon → Polls rows soon (said rows u (transmission soon) .world) ps v again
+      → Idle rows soon u (transmission soon ∷ ps) v
+  idle-polls s (told-to-wait e) = record { calls-are = refl; sends-nothing = s .sent; reports-nothing = s .told; left = s .still }
+  idle-polls s (one-report e d) = apart (sym e ∙ ap isReport (s .told .1))
+
+  idle-transmits : {soon again : ℕ} {v z : World} {ts ps : List Turn} → Sleeps soon → Transmits rows soon u ts v → Polls rows soon v ps z again → Idle rows soon u (ts ++ ps) z
+  idle-transmits s (none-left e) b = idle-polls s b
+  idle-transmits s (one-more e d) b = apart (sym e ∙ ap handsOut (s .sent))
+
+  round-idle : (soon again : ℕ) (rs : List Turn) (v : World) → now ≤ soon → soon < clock → soon ≤ 2 ^ 60 → Round rows soon u rs v again → Idle rows soon u rs v
+  round-idle soon again rs v a b low (round x y) = idle-transmits (sleeps soon a b low) x y
+
+-- ---- where no zero is set
+
+abbrev PositiveIn : StunRequestState → Type 0
+PositiveIn r = Positive (r .rto)
+
+module _ (tr : Transport) (l : List StunRequestState) (h : All PositiveIn l) where
+  received-positive : (from : Address) (p : Parsed) → All PositiveIn (changed tr (onMessage p keeps (answered l from)) l)
+  received-positive from Bad = h
+  received-positive from (Good y) = go (accepts l from y) (isResponse (y .class)) (lookup (key (y .«transaction_id»)) l)
+    where
+      go : (a r : Bool) (f : Found) → All PositiveIn (changed tr (cond a (cond r (taken f) keeps) keeps) l)
+      go false r f = h
+      go true false f = h
+      go true true (At i q) = all-removed PositiveIn l i h
+      go true true Nothing = h
+
+  wish-positive : (id : TransactionId) (wish : Wish) → PositiveIf (wishSettings wish) → (f : Found) → lookup (key id) l ≡ f
+      → All PositiveIn (changed tr (onFound f keeps (wished wish)) l)
+  unfolding silenced cancelled configured
+  wish-positive id wish p Nothing e = h
+  wish-positive id wish p (At i r) e = go wish p
+    where
+      old : PositiveIn r
+      old = all-at PositiveIn l i r h (found-at (key id) i r l e .placed)
+
+      go : (wish : Wish) → PositiveIf (wishSettings wish) → All PositiveIn (changed tr (wished wish i r) l)
+      go silence p = all-set PositiveIn l i (silenced r) old h
+      go cancel p = all-set PositiveIn l i (cancelled r) old h
+      go (configure rto) p = all-set PositiveIn l i (configured rto r) p h
+      go query p = h
+
+walked-positive : (tr : Transport) (now : ℕ) (r : StunRequestState) → PositiveIn r → PositiveIn (passedBy tr now r)
+walked-positive tr now r p = rw (settings-transmit r now tr .rto) p
+
+module _ (rows : ℕ) (w : World) (formed : StateFormed rows w) (built : Positive (w .agent .rto)) (h : All PositiveIn (w .requests)) where
+  passed-positive : (k : Kind) (b : List ℕ) → refusalOf rows w k b ≡ 0 → PositiveIf (settingsOf k) → All PositiveIn (saysOf rows w k b .world .requests)
+  unfolding changeOf
+  passed-positive (carries (submits-at to now)) b e p =
+      let a = request-accepted rows w to now b formed e in
+      rw (a .requests) (all-added PositiveIn (w .requests) (a .request) (rw (accepted-settings rows w to now b _ a) built) h)
+  passed-positive (carries (sends-other to)) b e p = rw (requests-after rows w (carries (sends-other to)) b e) h
+  passed-positive (carries (receives from clock)) b e p =
+      rw (requests-after rows w (carries (receives from clock)) b e) (received-positive (w .agent .transport) (w .requests) h from (messageOf b))
+  passed-positive (scans transmits now) b e p =
+      rw (requests-after rows w (scans transmits now) b e)
+      (all-walk PositiveIn (w .agent .transport) now (walked-positive (w .agent .transport) now) (w .requests) h)
+  passed-positive (scans reports now) b e p =
+      rw (requests-after rows w (scans reports now) b e)
+      (all-reported PositiveIn (w .agent .transport) (w .requests) (pollAll (w .agent .transport) now (w .requests)) h)
+  passed-positive (names id wish) b e p =
+      rw (requests-after rows w (names id wish) b e)
+      (wish-positive (w .agent .transport) (w .requests) h id wish p (lookup (key id) (w .requests)) refl)
+  passed-positive (meets a x) b e p = rw (requests-after rows w (meets a x) b e) h
+  passed-positive (counts f) b e p = rw (requests-after rows w (counts f) b e) h
+
+  said-positive : (t : Turn) → (refusalOf rows w (kindIn t) (t .bytes) ≡ 0 → PositiveIf (settingsOf (kindIn t))) → All PositiveIn (said rows w t .world .requests)
+  said-positive t p = go (refusalOf rows w (kindIn t) (t .bytes)) refl
+    where
+      go : (n : ℕ) → refusalOf rows w (kindIn t) (t .bytes) ≡ n → All PositiveIn (said rows w t .world .requests)
+      go zero e = passed-positive (kindIn t) (t .bytes) e (p e)
+      go (suc n) e = rw (refused-same rows w (kindIn t) (t .bytes) n e) h
+
+pub positive-run : (rows : ℕ) (w : World) (ts : List Turn) → StateFormed rows w → Positive (w .agent .rto) → NoZeroSet rows w ts → All PositiveIn (w .requests)
+    → All PositiveIn (run rows w ts .requests)
+unfolding run
+positive-run rows w [] f p z h = h
+positive-run rows w (t ∷ ts) f p z h =
+    let a = says-agent rows w (kindIn t) (t .bytes) in
+    positive-run rows (said rows w t .world) ts (says-formed rows w (kindIn t) (t .bytes) f) (rw (a .rto) p) (z .1)
+    (said-positive rows w f p h t (z .0))
+
+-- ---- the sentence
+
+pub last-sentence : (rows : ℕ) (s : Start) (ss : List Step) (before rs : List Turn) (now clock : ℕ) (u : World) → Fit rows s → Runs rows (begins s) ss before
+    → Steady 0 (ss ++ (plays now ∷ [])) → Round rows now (run rows (begins s) before) rs u clock → LastSentence rows s before now clock u
+last-sentence rows s ss before rs now clock u fit runs steady (round {v} a b) = record {
+  after-unless-zero = λ p z.
+      let h = positive-run rows (begins s) before (fresh-ok rows s fit .formed) p z tt in
+      let k = polls-all rows tr set now low PositiveIn b mid (transmits-all rows tr set now low PositiveIn (walked-positive tr now) a (at .floor) (at .steady .0) (at .ok) h) in
+      round-later tr now clock (u .requests) early rest (none-silent tr now clock (u .requests) early rest k (early .all-wait));
+  after-unless-silenced = round-later tr now clock (u .requests) early rest;
+  nothing-before = round-idle rows tr set now clock u (ok-round (round a b) (at .floor) (at .steady .0) (at .ok)) early;
+}
+  where
+    tr : Transport
+    tr = s .transport
+
+    set : RequestRto
+    set = s .rto
+
+    at : Reaches rows (s .transport) (s .rto) (plays now ∷ []) (run rows (begins s) before)
+    at = reaches runs (plays now ∷ []) 0 (fresh-ok rows s fit) steady
+
+    low : now ≤ 2 ^ 60
+    low = at .steady .1
+
+    mid : Ok rows (s .transport) (s .rto) now v
+    mid = ok-transmits a (at .floor) (at .steady .0) (at .ok)
+
+    rest : All (Rested (s .transport) now) (u .requests)
+    rest = polls-all rows (s .transport) (s .rto) now low (Rested (s .transport) now) b mid (transmits-rested rows (s .transport) (s .rto) now low a (at .floor) (at .steady .0) (at .ok))
+
+    early : Earliest (s .transport) now (now + hour) (u .requests) clock
+    early = polls-earliest rows (s .transport) (s .rto) now low b mid

@@ -1,5 +1,5 @@
 -- Demand 3's last sentence: the wait that ends a round lies after its clock, and a round before it finds nothing to do.
---     Scans                          the two calls of a round, as the scans of the list
+--     Scans, the-scans               the two calls of a round, as the scans of the list
 --     transmits-rested, polls-earliest     the requests after a round, and its wait
 --     round-later                    the wait lies after the clock
 --     round-idle                     a round before the wait sends and reports nothing
@@ -64,15 +64,15 @@ use Rattle.runs.proofs.Demand.{fresh-ok}
 -- ---- the two calls of a round
 
 module _ (rows : ℕ) (tr : Transport) (set : RequestRto) (now : ℕ) (low : now ≤ 2 ^ 60) (m : ℕ) (l : m ≤ now) (w : World) (o : Ok rows tr set m w) where
-  record Scans : Type 0 where
-    sent : said rows w (transmission now) .answer ≡ transmitAnswer (walk tr now (w .requests) .out)
-    walked : said rows w (transmission now) .world .requests ≡ walk tr now (w .requests) .after
-    told : said rows w (poll now) .answer ≡ pollAnswer (pollAll tr now (w .requests))
-    polled : said rows w (poll now) .world .requests ≡ changed tr (reported (pollAll tr now (w .requests))) (w .requests)
-    transmitted : Ok rows tr set now (said rows w (transmission now) .world)
-    heard : Ok rows tr set now (said rows w (poll now) .world)
+  pub record Scans : Type 0 where
+    pub sent : said rows w (transmission now) .answer ≡ transmitAnswer (walk tr now (w .requests) .out)
+    pub walked : said rows w (transmission now) .world .requests ≡ walk tr now (w .requests) .after
+    pub told : said rows w (poll now) .answer ≡ pollAnswer (pollAll tr now (w .requests))
+    pub polled : said rows w (poll now) .world .requests ≡ changed tr (reported (pollAll tr now (w .requests))) (w .requests)
+    pub transmitted : Ok rows tr set now (said rows w (transmission now) .world)
+    pub heard : Ok rows tr set now (said rows w (poll now) .world)
 
-  the-scans : Scans
+  pub the-scans : Scans
   the-scans =
       let s = scan-said rows w transmits now [] (scan-passes rows w transmits now [] (o .formed) (omega (arith, o .mark)) low) in
       let p = scan-said rows w reports now [] (scan-passes rows w reports now [] (o .formed) (omega (arith, o .mark)) low) in

@@ -7,3 +7,4 @@ pub mod Present
 pub mod Demand
 pub mod Rests
 pub mod Last
+pub mod Play

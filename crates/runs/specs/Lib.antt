@@ -3,3 +3,4 @@ pub mod Round
 pub mod Times
 pub mod Demand
 pub mod Last
+pub mod Play

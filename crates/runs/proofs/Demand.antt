@@ -1,7 +1,8 @@
--- Demand 3 of two runs: sends few and spaced in each, and none of the first later in the second.
+-- Demand 3 of one run: its sends and its timeout in closed form, few and spaced.
 --     fresh-ok, fresh-never-bad     from fresh no call of a run with steady clocks is refused by 1 or 3
 --     closed-form                   the sends and the timeout of one run
---     demand3                       the two runs compared
+--     each-run                      what demand 3 says of it
+--     more-clocks, steady-rising    more rounds are more clocks, and they rise
 use Prim.Native.Nat.{ℕ, suc, _-_, _^_, _≤_}
 use mathlib.Core.Path.{_≡_, refl, sym, ap, _∙_}
 use mathlib.Core.List.{List, [], _∷_, _++_}
@@ -24,9 +25,9 @@ use Rattle.model.proofs.State.{fresh-formed}
 use Rattle.model.proofs.Store.{RequestAccepted, request-accepted}
 use Rattle.runs.specs.Run.{kindIn, said, run, sends, timeouts}
 use Rattle.runs.specs.Round.{Step, calls, plays, Runs, ends, then-call, then-round, MoreRounds, no-more, shared, extra}
-use Rattle.runs.specs.Times.{sendTimes, endTime, Sooner, NoLater, Rising, More, same, both, added, listOf}
-use Rattle.runs.specs.Demand.{SteadyAt, stepClock, Steady, roundsOf, rounds, Start, begins, Fit, Submission, submits, Life, sendsOf, timeoutOf, most, Spaced, NeverBad, ClosedForm, EachRun, Demand3}
-use Rattle.runs.proofs.Times.{rising-down, sends-no-later, end-sooner, gaps-hold, sends-few}
+use Rattle.runs.specs.Times.{sendTimes, endTime, Rising, More, same, both, added, listOf}
+use Rattle.runs.specs.Demand.{SteadyAt, stepClock, Steady, roundsOf, rounds, Start, begins, Fit, Submission, submits, Life, sendsOf, most, NeverBad, ClosedForm, EachRun}
+use Rattle.runs.proofs.Times.{rising-down, gaps-hold, sends-few}
 use Rattle.runs.proofs.Steady.{Ok, ok-said, Reaches, reaches, never-append, never-call, never-bad}
 use Rattle.runs.proofs.One.{Loud, sendsFrom, endFrom}
 use Rattle.runs.proofs.Present.{Closed, present-run}
@@ -37,12 +38,12 @@ more-behind : (xs : List ℕ) {ts us : List ℕ} → More ts us → More (xs ++ 
 more-behind [] d = d
 more-behind (x ∷ xs) d = both (more-behind xs d)
 
-more-clocks : {ss zs : List Step} → MoreRounds ss zs → More (rounds ss) (rounds zs)
+pub more-clocks : {ss zs : List Step} → MoreRounds ss zs → More (rounds ss) (rounds zs)
 more-clocks no-more = same
 more-clocks (shared {s} d) = more-behind (roundsOf s) (more-clocks d)
 more-clocks (extra d) = added (more-clocks d)
 
-steady-rising : (ss : List Step) (m : ℕ) → Steady m ss → Rising m (rounds ss)
+pub steady-rising : (ss : List Step) (m : ℕ) → Steady m ss → Rising m (rounds ss)
 steady-rising [] m h = tt
 steady-rising (plays now ∷ ss) m h = (h .0, steady-rising ss now (h .2))
 steady-rising (calls t ∷ ss) m h = go (clockOf (kindIn t)) h (steady-rising ss)
@@ -154,29 +155,3 @@ module _ (rows x : ℕ) (s : Start) (q : Submission) (pre post : List Step) (bef
         (never-call rows (s .transport) (s .rto) (reached .floor) start (submits q) (reached .ok) later (reached .steady .0, reached .steady .1, tt)
         (never-bad (life .runs-later) (q .now) then-ok post-steady));
   }
-
-sooner-list : (o′ o : Option ℕ) → Sooner o′ o → NoLater (listOf o′) (listOf o)
-sooner-list o′ none h = tt
-sooner-list none (some t) h = h
-sooner-list (some u) (some t) h = (h, tt)
-
--- The second run is the first with more rounds; that it is so before the submission too isn't needed.
-pub demand3 : (rows x : ℕ) (s : Start) (q : Submission) (pre post pre′ post′ : List Step) (before later before′ later′ : List Turn) → Fit rows s
-    → MoreRounds pre pre′ → MoreRounds post post′ → Life rows x s q pre post before later → Life rows x s q pre′ post′ before′ later′
-    → Demand3 rows x s q before later before′ later′
-demand3 rows x s q pre post pre′ post′ before later before′ later′ fit _ more life life′ =
-    let up : Rising (q .now) (rounds post′) = steady-rising post′ (q .now) (post-steady rows x s q pre′ post′ before′ later′ fit life′) in
-    let a = closed-form rows x s q pre post before later fit life in
-    let b = closed-form rows x s q pre′ post′ before′ later′ fit life′ in
-    let n = waitsOf (s .transport) (s .rto) in
-    record {
-      first-run = each-run rows x s q pre post before later fit life;
-      second-run = each-run rows x s q pre′ post′ before′ later′ fit life′;
-      each-send-no-later =
-          rw (a .sends-are, b .sends-are)
-          (omega arith, sends-no-later (s .transport) (s .rto) (more-clocks more) (q .now) up n 0 (q .now) (q .now) (omega arith));
-      timeout-no-later =
-          rw (a .timeout-is, b .timeout-is)
-          (sooner-list (endTime (s .transport) (s .rto) n 0 (q .now) (rounds post′)) (endTime (s .transport) (s .rto) n 0 (q .now) (rounds post))
-          (end-sooner (s .transport) (s .rto) (more-clocks more) (q .now) up n 0 (q .now) (q .now) (omega arith)));
-    }

@@ -328,6 +328,10 @@ last-sentence rows s ss before rs now clock u fit runs steady (round {v} a b) = 
       let k = polls-all rows tr set now low PositiveIn b mid (transmits-all rows tr set now low PositiveIn (walked-positive tr now) a (at .floor) (at .steady .0) (at .ok) h) in
       round-later tr now clock (u .requests) early rest (none-silent tr now clock (u .requests) early rest k (early .all-wait));
   after-unless-silenced = round-later tr now clock (u .requests) early rest;
+  at-most = λ x i r e.
+      let p = found-at x i r (u .requests) e .placed in
+      let y = early .least i r p in
+      omega (arith, y .2, wait-is tr now clock (u .requests) early i r p (y .0) (y .1));
   nothing-before = round-idle rows tr set now clock u (ok-round (round a b) (at .floor) (at .steady .0) (at .ok)) early;
 }
   where

@@ -7,4 +7,6 @@ pub mod Present
 pub mod Demand
 pub mod Rests
 pub mod Last
+pub mod Whole
 pub mod Play
+mod Examples

@@ -1,4 +1,4 @@
--- Demand 3: the words of its hypotheses and conclusions.
+-- Demand 3: the words of its hypotheses, and what it says of each run.
 use Prim.Native.Nat.{ℕ, _*_, _^_, _≤_, max}
 use mathlib.Core.Path.{_≡_}
 use mathlib.Core.Bool.{Bool, false}
@@ -23,7 +23,7 @@ use Rattle.model.specs.Worked.{Turn, with}
 use Rattle.model.specs.declared.Call.the-variants as call
 use Rattle.runs.specs.Run.{kindIn, said, run, sends, timeouts, handledBy}
 use Rattle.runs.specs.Round.{Step, calls, plays, Runs}
-use Rattle.runs.specs.Times.{sendTimes, endTime, NoLater, Gaps, listOf}
+use Rattle.runs.specs.Times.{sendTimes, endTime, Gaps, listOf}
 
 -- After clock m a step with clock c, if it has one, and then K of the clock reached.
 abbrev pub SteadyAt : Option ℕ → ℕ → (ℕ → Type 0) → Type 0
@@ -129,12 +129,3 @@ pub record EachRun (rows x : ℕ) (s : Start) (q : Submission) (before later : L
   pub gap-at-least : Spaced (s .rto) (sendsOf rows x s q before later)
   -- no call of it is refused by 1 or 3
   pub never-bad : NeverBad rows (begins s) (before ++ (submits q ∷ later))
-
--- Demand 3 of two runs, the second with `before′` and `later′`.
-pub record Demand3 (rows x : ℕ) (s : Start) (q : Submission) (before later before′ later′ : List Turn) : Type 0 where
-  -- "in each run"
-  pub first-run : EachRun rows x s q before later
-  pub second-run : EachRun rows x s q before′ later′
-  -- "each send the first run makes, and its timeout, comes no later in the second"
-  pub each-send-no-later : NoLater (sendsOf rows x s q before′ later′) (sendsOf rows x s q before later)
-  pub timeout-no-later : NoLater (timeoutOf rows x s q before′ later′) (timeoutOf rows x s q before later)

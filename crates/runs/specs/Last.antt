@@ -1,15 +1,17 @@
 -- Demand 3's last sentence, of one run: "the wait that ends a round lies after its clock unless an initial or max of zero was set or a
 -- request whose retransmissions were cancelled has a step still due, and a round before it, with no other call between, sends and reports
 -- nothing".
-use Prim.Native.Nat.{ℕ, _^_, _≤_, _<_}
+use Prim.Native.Nat.{ℕ, _^_, _≤_, _<_, max}
 use mathlib.Core.Path.{_≡_}
 use mathlib.Core.Bool.{true, false}
 use mathlib.Core.List.{List, [], _∷_}
 use mathlib.Core.Option.{Option, none, some}
 use Rattle.waits.specs.declared.RequestRto.{RequestRto}
 use Rattle.waits.specs.declared.Transport.{Transport}
-use Rattle.request.specs.Times.{isDue}
+use Rattle.request.specs.Times.{isDue, momentOf}
 use Rattle.request.specs.declared.StunRequestState.{StunRequestState}
+use Rattle.requests.specs.Search.{lookup}
+use Rattle.requests.specs.declared.Found.the-variants.{At}
 use Rattle.model.specs.World.{World}
 use Rattle.model.specs.Calls.{settingsOf}
 use Rattle.model.specs.Refusals.{refusalOf}
@@ -56,6 +58,8 @@ pub record LastSentence (rows : ℕ) (s : Start) (before : List Turn) (now clock
   pub after-unless-zero : Positive (s .rto) → NoZeroSet rows (begins s) before → now < clock
   -- "or a request whose retransmissions were cancelled has a step still due"
   pub after-unless-silenced : NoSilentDue (s .transport) now (u .requests) → now < clock
+  -- It is at most the next moment of each request outstanding: its next send, or its end.
+  pub at-most : (x i : ℕ) (r : StunRequestState) → lookup x (u .requests) ≡ At i r → clock ≤ max now (momentOf (s .transport) now r)
   -- "a round before it, with no other call between, sends and reports nothing"
   pub nothing-before : (soon again : ℕ) (rs : List Turn) (v : World) → now ≤ soon → soon < clock → soon ≤ 2 ^ 60 → Round rows soon u rs v again
       → Idle rows soon u rs v

@@ -3,4 +3,6 @@ pub mod Round
 pub mod Times
 pub mod Demand
 pub mod Last
+pub mod Whole
 pub mod Play
+pub mod Examples

@@ -1,10 +1,12 @@
 -- Demand 3 of one run: its sends and its timeout in closed form, few and spaced.
---     fresh-ok, fresh-never-bad     from fresh no call of a run with steady clocks is refused by 1 or 3
+--     fresh-ok, fit-ok, fresh-never-bad     from fresh no call of a run with steady clocks is refused by 1 or 3
+--     began-formed                  where a call isn't refused by 1, the agent began well formed
 --     closed-form                   the sends and the timeout of one run
 --     each-run                      what demand 3 says of it
 --     more-clocks, steady-rising    more rounds are more clocks, and they rise
 use Prim.Native.Nat.{ℕ, suc, _-_, _^_, _≤_}
 use mathlib.Core.Path.{_≡_, refl, sym, ap, _∙_}
+use mathlib.Core.Bool.{Bool, true, false}
 use mathlib.Core.List.{List, [], _∷_, _++_}
 use mathlib.Core.Option.{Option, none, some}
 use lib.ListN.{length}
@@ -17,11 +19,14 @@ use Rattle.waits.specs.declared.Transport.{Transport}
 use Rattle.waits.specs.declared.Transport.the-variants.{Udp, Tcp}
 use Rattle.request.specs.declared.StunRequestState.{StunRequestState}
 use Rattle.requests.specs.Search.{lookup, requestOf}
-use Rattle.model.specs.World.{World}
+use Rattle.model.specs.World.{World, StateFormed, stateFormed}
 use Rattle.model.specs.Calls.{clockOf}
+use Rattle.model.specs.Refusals.{STATE, numberOf, refusalOf}
+use Rattle.model.specs.Says.{Said}
 use Rattle.model.specs.Worked.{Turn}
 use Rattle.model.proofs.Below as below
-use Rattle.model.proofs.State.{fresh-formed}
+use Rattle.model.proofs.Refused.{bad-state-first, refused-same}
+use Rattle.model.proofs.State.{state-exactly, fresh-formed}
 use Rattle.model.proofs.Store.{RequestAccepted, request-accepted}
 use Rattle.runs.specs.Run.{kindIn, said, run, sends, timeouts}
 use Rattle.runs.specs.Round.{Step, calls, plays, Runs, ends, then-call, then-round, MoreRounds, no-more, shared, extra}
@@ -63,17 +68,37 @@ steady-front (s ∷ ss) rest m h = go (stepClock s) h (steady-front ss rest)
 
 -- ---- a fresh agent
 
-module _ (rows : ℕ) (s : Start) (fit : Fit rows s) where
-  pub fresh-ok : Ok rows (s .transport) (s .rto) 0 (begins s)
-  fresh-ok = record {
-    formed = fresh-formed rows (s .transport) (s .stats) (s .rto) (s .store) (s .peers) (s .counters) (fit .limits) (fit .room);
-    transport = refl;
-    rto = refl;
-    mark = omega arith;
-  }
+-- a world that isn't well formed refuses every call
+unformed-run : (rows : ℕ) (w : World) (ts : List Turn) → stateFormed rows w ≡ false → run rows w ts ≡ w
+unfolding run
+unformed-run rows w [] e = refl
+unformed-run rows w (t ∷ ts) e =
+    let same : said rows w t .world ≡ w =
+    ap (λ (z : Said). z .world) (refused-same rows w (kindIn t) (t .bytes) 0 (bad-state-first rows w (kindIn t) (t .bytes) e)) in
+    rw same (unformed-run rows w ts e)
 
-  pub fresh-never-bad : {ss : List Step} {ts : List Turn} → Runs rows (begins s) ss ts → Steady 0 ss → NeverBad rows (begins s) ts
-  fresh-never-bad d h = never-bad d 0 fresh-ok h
+module _ (rows : ℕ) (s : Start) where
+  fit-formed : Fit rows s → StateFormed rows (begins s)
+  fit-formed fit = fresh-formed rows (s .transport) (s .stats) (s .rto) (s .store) (s .peers) (s .counters) (fit .limits) (fit .room)
+
+  pub fresh-ok : StateFormed rows (begins s) → Ok rows (s .transport) (s .rto) 0 (begins s)
+  fresh-ok formed = record { formed = formed; transport = refl; rto = refl; mark = omega arith }
+
+  pub fit-ok : Fit rows s → Ok rows (s .transport) (s .rto) 0 (begins s)
+  fit-ok fit = fresh-ok (fit-formed fit)
+
+  pub fresh-never-bad : Fit rows s → {ss : List Step} {ts : List Turn} → Runs rows (begins s) ss ts → Steady 0 ss → NeverBad rows (begins s) ts
+  fresh-never-bad fit d h = never-bad d 0 (fit-ok fit) h
+
+  -- where a call isn't refused by 1, the agent began well formed
+  pub began-formed : (before : List Turn) (t : Turn) → (refusalOf rows (run rows (begins s) before) (kindIn t) (t .bytes) ≡ numberOf STATE → ⊥)
+      → StateFormed rows (begins s)
+  began-formed before t n = go (stateFormed rows (begins s)) refl
+    where
+      go : (b : Bool) → stateFormed rows (begins s) ≡ b → StateFormed rows (begins s)
+      go true e = state-exactly rows (begins s) .0 e
+      go false e =
+          absurd (n (rw (unformed-run rows (begins s) before e) (bad-state-first rows (begins s) (kindIn t) (t .bytes) e)))
 
 waits-most : (tr : Transport) (set : RequestRto) → suc (waitsOf tr set) ≤ most tr set
 waits-most Udp set = omega arith
@@ -81,8 +106,11 @@ waits-most Tcp set = omega arith
 
 -- ---- one run: its sends and its timeout in closed form
 
-module _ (rows x : ℕ) (s : Start) (q : Submission) (pre post : List Step) (before later : List Turn) (fit : Fit rows s)
+module _ (rows x : ℕ) (s : Start) (q : Submission) (pre post : List Step) (before later : List Turn)
     (life : Life rows x s q pre post before later) where
+  began : StateFormed rows (begins s)
+  began = began-formed rows s before (submits q) (λ e. omega (arith, life .accepted))
+
   start : World
   start = run rows (begins s) before
 
@@ -92,7 +120,7 @@ module _ (rows x : ℕ) (s : Start) (q : Submission) (pre post : List Step) (bef
 
   reached : Reaches rows (s .transport) (s .rto) (calls (submits q) ∷ post) start
   unfolding start
-  reached = reaches (life .runs-before) (calls (submits q) ∷ post) 0 (fresh-ok rows s fit) (life .steady)
+  reached = reaches (life .runs-before) (calls (submits q) ∷ post) 0 (fresh-ok rows s began) (life .steady)
 
   pub post-steady : Steady (q .now) post
   post-steady = reached .steady .2
@@ -151,7 +179,7 @@ module _ (rows x : ℕ) (s : Start) (q : Submission) (pre post : List Step) (bef
     once-by-tcp = once;
     gap-at-least = rw (closed-form .sends-are) (gaps-hold (s .rto) (rounds post) (waitsOf (s .transport) (s .rto)) 0 (q .now));
     never-bad =
-        never-append rows (begins s) before (submits q ∷ later) (fresh-never-bad rows s fit (life .runs-before) (steady-front pre (calls (submits q) ∷ post) 0 (life .steady)))
+        never-append rows (begins s) before (submits q ∷ later) (never-bad (life .runs-before) 0 (fresh-ok rows s began) (steady-front pre (calls (submits q) ∷ post) 0 (life .steady)))
         (never-call rows (s .transport) (s .rto) (reached .floor) start (submits q) (reached .ok) later (reached .steady .0, reached .steady .1, tt)
         (never-bad (life .runs-later) (q .now) then-ok post-steady));
   }

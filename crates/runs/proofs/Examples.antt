@@ -34,7 +34,7 @@ use Rattle.runs.specs.Demand.{Steady, LeftAlone, Start, begins, Fit, Sub
 use Rattle.runs.specs.Whole.{Demand3}
 use Rattle.runs.specs.Examples.{small, first, three, seldom, often, Values}
 use Rattle.runs.proofs.Steady.{ok-said}
-use Rattle.runs.proofs.Demand.{fresh-ok}
+use Rattle.runs.proofs.Demand.{fit-ok}
 use Rattle.runs.proofs.Whole.{demand3}
 use Rattle.runs.proofs.Play.{NoScan, runs-played}
 
@@ -75,7 +75,7 @@ lived rows x s q post fit h n a y l = record {
   named = y;
   runs-later =
       runs-played post (q .now) (said rows (begins s) (submits q) .world)
-      (ok-said rows (s .transport) (s .rto) 0 (q .now) (begins s) (kindIn (submits q)) (q .bytes) (fresh-ok rows s fit) (h .0) (omega arith)) (h .2) n;
+      (ok-said rows (s .transport) (s .rto) 0 (q .now) (begins s) (kindIn (submits q)) (q .bytes) (fit-ok rows s fit) (h .0) (omega arith)) (h .2) n;
   alone = l;
 }
 
@@ -106,5 +106,5 @@ often-lived =
     (refl, (refl, (refl, (refl, (refl, (refl, (refl, (refl, (refl, (refl, (refl, (refl, (refl, (refl, (refl, tt)))))))))))))))
 
 pub pair : Demand3 1 1 three first [] (laterOf 1 three first seldom) [] (laterOf 1 three first often)
-pair = demand3 1 1 three first [] seldom [] often [] (laterOf 1 three first seldom) [] (laterOf 1 three first often) fit no-more
+pair = demand3 1 1 three first [] seldom [] often [] (laterOf 1 three first seldom) [] (laterOf 1 three first often) no-more
     (extra (shared (extra (shared (extra (shared no-more)))))) seldom-lived often-lived

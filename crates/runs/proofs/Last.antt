@@ -43,9 +43,9 @@ use Rattle.requests.proofs.Polls.{NoneEnds, Earliest, poll-waits, waits-exactly
 use Rattle.model.specs.World.{World, StateFormed}
 use Rattle.model.specs.Calls.{submits as submits-at, sends as sends-other, receives, transmits, reports, Wish, silence, cancel, configure, query, Kind, carries, scans, names, meets, counts, settingsOf, wishSettings}
 use Rattle.model.specs.Accepts.{onMessage, isResponse, accepts}
-use Rattle.model.specs.Refusals.{refusalOf}
+use Rattle.model.specs.Refusals.{STATE, numberOf, refusalOf}
 use Rattle.model.specs.Effects.{onFound, keeps, changed, taken, answered, reported, wished, changeOf, transmitAnswer, pollAnswer}
-use Rattle.model.specs.Says.{saysOf}
+use Rattle.model.specs.Says.{Said, saysOf}
 use Rattle.model.specs.Worked.{Turn}
 use Rattle.model.specs.declared.Answer.the-variants as answer
 use Rattle.model.proofs.Refused.{refused-same}
@@ -54,12 +54,12 @@ use Rattle.model.proofs.Store.{request-accepted}
 use Rattle.model.proofs.Default.{accepted-settings}
 use Rattle.runs.specs.Run.{kindIn, said, run, handsOut}
 use Rattle.runs.specs.Round.{transmission, poll, isReport, Transmits, none-left, one-more, Polls, told-to-wait, one-report, Round, round, Step, plays, Runs}
-use Rattle.runs.specs.Demand.{Steady, Start, begins, Fit}
+use Rattle.runs.specs.Demand.{Steady, Start, begins}
 use Rattle.runs.specs.Last.{All, Positive, PositiveIf, NoZeroSet, NoSilentDue, Idle, LastSentence}
 use Rattle.runs.proofs.Steady.{Ok, ok-said, scan-passes, ok-transmits, ok-round, Reaches, reaches}
 use Rattle.runs.proofs.Spared.{requests-after, scan-said}
 use Rattle.runs.proofs.Rests.{all-at, all-removed, all-set, all-added, all-walk, Rested, rested, Staying, staying, ahead, Between, still-ahead}
-use Rattle.runs.proofs.Demand.{fresh-ok}
+use Rattle.runs.proofs.Demand.{fresh-ok, began-formed}
 
 -- ---- the two calls of a round
 
@@ -320,11 +320,19 @@ positive-run rows w (t ∷ ts) f p z h =
 
 -- ---- the sentence
 
-pub last-sentence : (rows : ℕ) (s : Start) (ss : List Step) (before rs : List Turn) (now clock : ℕ) (u : World) → Fit rows s → Runs rows (begins s) ss before
+-- the first transmission of a round isn't refused by 1
+transmits-state : {rows now : ℕ} {w v : World} {ts : List Turn} → Transmits rows now w ts v → refusalOf rows w (kindIn (transmission now)) [] ≡ numberOf STATE → ⊥
+transmits-state {rows} {now} (none-left {w} e) f =
+    let r : saysOf rows w (kindIn (transmission now)) [] .answer ≡ answer.Refused 1 = ap (λ (z : Said). z .answer) (refused-same rows w (kindIn (transmission now)) [] 0 f) in
+    let z : _≡_ {A = ℕ} 0 1 = cc in omega arith
+transmits-state {rows} {now} (one-more {w} e d) f =
+    apart (sym e ∙ ap (λ (z : Said). handsOut (z .answer)) (refused-same rows w (kindIn (transmission now)) [] 0 f))
+
+pub last-sentence : (rows : ℕ) (s : Start) (ss : List Step) (before rs : List Turn) (now clock : ℕ) (u : World) → Runs rows (begins s) ss before
     → Steady 0 (ss ++ (plays now ∷ [])) → Round rows now (run rows (begins s) before) rs u clock → LastSentence rows s before now clock u
-last-sentence rows s ss before rs now clock u fit runs steady (round {v} a b) = record {
+last-sentence rows s ss before rs now clock u runs steady (round {v} a b) = record {
   after-unless-zero = λ p z.
-      let h = positive-run rows (begins s) before (fresh-ok rows s fit .formed) p z tt in
+      let h = positive-run rows (begins s) before began p z tt in
       let k = polls-all rows tr set now low PositiveIn b mid (transmits-all rows tr set now low PositiveIn (walked-positive tr now) a (at .floor) (at .steady .0) (at .ok) h) in
       round-later tr now clock (u .requests) early rest (none-silent tr now clock (u .requests) early rest k (early .all-wait));
   after-unless-silenced = round-later tr now clock (u .requests) early rest;
@@ -341,8 +349,11 @@ last-sentence rows s ss before rs now clock u fit runs steady (round {v} a b) = 
     set : RequestRto
     set = s .rto
 
+    began : StateFormed rows (begins s)
+    began = began-formed rows s before (transmission now) (transmits-state a)
+
     at : Reaches rows (s .transport) (s .rto) (plays now ∷ []) (run rows (begins s) before)
-    at = reaches runs (plays now ∷ []) 0 (fresh-ok rows s fit) steady
+    at = reaches runs (plays now ∷ []) 0 (fresh-ok rows s began) steady
 
     low : now ≤ 2 ^ 60
     low = at .steady .1

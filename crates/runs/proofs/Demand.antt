@@ -4,8 +4,8 @@
 --     closed-form                   the sends and the timeout of one run
 --     each-run                      what demand 3 says of it
 --     more-clocks, steady-rising    more rounds are more clocks, and they rise
-use Prim.Native.Nat.{ℕ, suc, _-_, _^_, _≤_}
-use mathlib.Core.Path.{_≡_, refl, sym, ap, _∙_}
+use Prim.Native.Nat.{ℕ, suc, _-_, _≤_}
+use mathlib.Core.Path.{_≡_, refl, ap, _∙_}
 use mathlib.Core.Bool.{Bool, true, false}
 use mathlib.Core.List.{List, [], _∷_, _++_}
 use mathlib.Core.Option.{Option, none, some}
@@ -29,12 +29,12 @@ use Rattle.model.proofs.Refused.{bad-state-first, refused-same}
 use Rattle.model.proofs.State.{state-exactly, fresh-formed}
 use Rattle.model.proofs.Store.{RequestAccepted, request-accepted}
 use Rattle.runs.specs.Run.{kindIn, said, run, sends, timeouts}
-use Rattle.runs.specs.Round.{Step, calls, plays, Runs, ends, then-call, then-round, MoreRounds, no-more, shared, extra}
+use Rattle.runs.specs.Round.{Step, calls, plays, Runs, MoreRounds, no-more, shared, extra}
 use Rattle.runs.specs.Times.{sendTimes, endTime, Rising, More, same, both, added, listOf}
 use Rattle.runs.specs.Demand.{SteadyAt, stepClock, Steady, roundsOf, rounds, Start, begins, Fit, Submission, submits, Life, sendsOf, most, NeverBad, ClosedForm, EachRun}
 use Rattle.runs.proofs.Times.{rising-down, gaps-hold, sends-few}
 use Rattle.runs.proofs.Steady.{Ok, ok-said, Reaches, reaches, never-append, never-call, never-bad}
-use Rattle.runs.proofs.One.{Loud, sendsFrom, endFrom}
+use Rattle.runs.proofs.One.{Loud}
 use Rattle.runs.proofs.Present.{Closed, present-run}
 
 -- ---- more rounds are more clocks, and they rise

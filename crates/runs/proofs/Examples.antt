@@ -29,10 +29,10 @@ use Rattle.runs.specs.Play as play
 use Rattle.model.specs.Worked.{Turn}
 use Rattle.message.specs.declared.Message.{Message}
 use Rattle.runs.specs.Run.{kindIn, said}
-use Rattle.runs.specs.Round.{Step, calls, ends, MoreRounds, no-more, shared, extra}
+use Rattle.runs.specs.Round.{Step, calls, ends, no-more, shared, extra}
 use Rattle.runs.specs.Demand.{Steady, LeftAlone, Start, begins, Fit, Submission, submits, Life}
 use Rattle.runs.specs.Whole.{Demand3}
-use Rattle.runs.specs.Examples.{small, first, three, seldom, often, Values}
+use Rattle.runs.specs.Examples.{first, three, seldom, often, Values}
 use Rattle.runs.proofs.Steady.{ok-said}
 use Rattle.runs.proofs.Demand.{fit-ok}
 use Rattle.runs.proofs.Whole.{demand3}

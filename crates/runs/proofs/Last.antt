@@ -7,9 +7,9 @@
 --     last-sentence
 use Prim.Native.Nat.{ℕ, zero, suc, _+_, _^_, _≤_, _<_, max}
 use mathlib.Core.Path.{_≡_, refl, sym, ap, _∙_, subst}
-use mathlib.Core.Bool.{Bool, true, false, cond, not, _&&_, _||_, and-false}
+use mathlib.Core.Bool.{Bool, true, false, cond, not, _||_, and-false}
 use mathlib.Core.List.{List, [], _∷_, _++_, map}
-use mathlib.Core.Option.{Option, none, some}
+use mathlib.Core.Option.{some}
 use mathlib.Core.Logic.{_⊎_, inl, inr}
 use lib.ListN.{getElem?}
 use native.Mathlib.Omega.{arith}
@@ -22,7 +22,7 @@ use Rattle.message.specs.declared.Parsed.the-variants.{Good, Bad}
 use Rattle.waits.specs.declared.RequestRto.{RequestRto}
 use Rattle.waits.specs.declared.Transport.{Transport}
 use Rattle.request.specs.Times.{isDue, momentOf}
-use Rattle.request.specs.Request.{silenced, cancelled, configured, stepped, transmitOf, pollOf}
+use Rattle.request.specs.Request.{silenced, cancelled, configured, pollOf}
 use Rattle.request.specs.Answers.{ends, waitClock}
 use Rattle.request.specs.declared.StunRequestState.{StunRequestState}
 use Rattle.request.specs.declared.StunRequestPollRet.the-variants as poll-ret

@@ -6,7 +6,7 @@
 --     sends-over, end-over          at one where it is over
 --     loud-goes, timed-over, waits-over, not-cancelled      what the two scans say of it
 use Prim.Native.Nat.{ℕ, zero, suc, _+_, _-_, _≤_, _<_, max}
-use mathlib.Core.Path.{_≡_, refl, sym, ap, _∙_}
+use mathlib.Core.Path.{_≡_, refl, sym, _∙_}
 use mathlib.Core.Bool.{Bool, true, false, cond, not, _&&_, and-true, false≢true}
 use mathlib.Core.List.{List, [], _∷_}
 use mathlib.Core.Option.{Option, none, some}
@@ -23,7 +23,6 @@ use Rattle.request.specs.Request.{stepped, transmitOf, pollOf}
 use Rattle.request.specs.Answers.{goesOut}
 use Rattle.request.specs.declared.SendTimes.the-variants.{Sent}
 use Rattle.request.specs.declared.StunRequestState.{StunRequestState}
-use Rattle.request.specs.declared.StunRequestPollRet.{StunRequestPollRet}
 use Rattle.request.specs.declared.StunRequestPollRet.the-variants.{WaitUntil, Cancelled, TimedOut}
 use Rattle.request.proofs.Answers.{goes-exactly}
 use Rattle.request.proofs.Steps.{step-again}

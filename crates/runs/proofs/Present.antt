@@ -5,24 +5,22 @@
 --     Closed, present-run        a run
 use Prim.Native.Nat.{ℕ, _+_, _^_, _≤_, zero, suc}
 use mathlib.Core.Path.{_≡_, refl, sym, ap, _∙_, subst}
-use mathlib.Core.Bool.{Bool, true, false, cond, _&&_, and-false}
+use mathlib.Core.Bool.{true, false, and-false}
 use mathlib.Core.List.{List, [], _∷_, _++_, append-assoc, append-nil}
 use mathlib.Core.Option.{Option, none, some}
 use lib.Dec.{eqb}
 use borrow.Author.Tests.{eq-eqb, ne-eqb}
 use native.Mathlib.Omega.{arith}
 use Rattle.message.specs.Head.{key}
-use Rattle.message.specs.declared.TransactionId.{TransactionId}
 use Rattle.waits.specs.declared.RequestRto.{RequestRto}
 use Rattle.waits.specs.declared.Transport.{Transport}
 use Rattle.request.specs.Times.{isDue}
-use Rattle.request.specs.Request.{stepped, transmitOf, pollOf}
-use Rattle.request.specs.Answers.{goesOut}
+use Rattle.request.specs.Request.{stepped, pollOf}
 use Rattle.request.specs.declared.StunRequestState.{StunRequestState}
 use Rattle.request.specs.declared.StunRequestPollRet.the-variants as poll-ret
 use Rattle.request.proofs.Kept.{same-stepped}
 use Rattle.requests.specs.Search.{keyOf, lookup, requestOf}
-use Rattle.requests.specs.Scan.{walk, pollAll}
+use Rattle.requests.specs.Scan.{pollAll}
 use Rattle.requests.specs.declared.Found.{Found}
 use Rattle.requests.specs.declared.Found.the-variants.{At, Nothing}
 use Rattle.requests.specs.declared.Transmitted.{Transmitted}
@@ -43,7 +41,7 @@ use Rattle.runs.specs.Run.{kindIn, said, run, handsOut, handsOutIt, time
 use Rattle.runs.specs.Round.{transmission, poll, isReport, Transmits, none-left, one-more, Polls, told-to-wait, one-report, Round, round, Step, Runs, ends, then-call, then-round}
 use Rattle.runs.specs.Times.{next, sendTimes, endTime, listOf}
 use Rattle.runs.specs.Demand.{Steady, rounds, LeftAlone}
-use Rattle.runs.proofs.Steady.{Ok, ok-said, next-ok, scan-passes, run-append, transmits-world, polls-world, round-world, ok-transmits, ok-round}
+use Rattle.runs.proofs.Steady.{Ok, ok-said, next-ok, scan-passes, transmits-world, polls-world, round-world, ok-transmits, ok-round}
 use Rattle.runs.proofs.Spared.{others-spare, scan-said, ended-other, absent-run}
 use Rattle.runs.proofs.One.{Loud, stepped-facts, sendsFrom, endFrom, loud-goes, sends-step, end-step, sends-stay, sends-over, end-over, end-stay, timed-over, waits-over, not-cancelled}
 

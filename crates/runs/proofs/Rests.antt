@@ -5,10 +5,10 @@
 --     Staying, staying               one that a poll has passed by
 --     ahead, still-ahead             its moment lies ahead, and until then it is neither due nor over
 use Prim.Native.Nat.{ℕ, zero, suc, _+_, _≤_, _<_, max}
-use mathlib.Core.Path.{_≡_, refl, sym, ap, _∙_}
+use mathlib.Core.Path.{_≡_, refl, sym, _∙_}
 use mathlib.Core.Bool.{Bool, true, false, cond, not, _&&_, _||_, and-false}
 use mathlib.Core.List.{List, [], _∷_}
-use mathlib.Core.Option.{Option, none, some}
+use mathlib.Core.Option.{some}
 use lib.Dec.{leb}
 use lib.ListN.{getElem?, set}
 use lib.Pow.{pow-pos}

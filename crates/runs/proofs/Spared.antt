@@ -11,16 +11,14 @@ use Prim.Native.Nat.{ℕ, zero, suc, _+_}
 use mathlib.Core.Path.{_≡_, refl, sym, ap, _∙_}
 use mathlib.Core.Bool.{Bool, true, false, cond, _&&_}
 use mathlib.Core.List.{List, [], _∷_}
-use mathlib.Core.Option.{Option, none, some}
+use mathlib.Core.Option.{none}
 use lib.Dec.{eqb}
 use lib.ListN.{length, set}
 use borrow.Author.Tests.{eqb-false, ne-eqb}
-use native.Mathlib.Omega.{arith}
 use Rattle.address.specs.declared.Address.{Address}
 use Rattle.message.specs.Head.{key}
 use Rattle.message.specs.Attributes.{messageOf}
 use Rattle.message.specs.declared.TransactionId.{TransactionId}
-use Rattle.message.specs.declared.Message.{Message}
 use Rattle.message.specs.declared.Parsed.{Parsed}
 use Rattle.message.specs.declared.Parsed.the-variants.{Good, Bad}
 use Rattle.waits.specs.declared.Transport.{Transport}
@@ -49,7 +47,6 @@ use Rattle.model.specs.Refusals.{refusalOf}
 use Rattle.model.specs.Effects.{onFound, keeps, removes, changed, taken, answered, reported, wished, changeOf, transmitAnswer, pollAnswer, scanAnswer, scanChange, answerOf, after}
 use Rattle.model.specs.Says.{saysOf}
 use Rattle.model.specs.Worked.{Turn}
-use Rattle.model.specs.declared.Answer.{Answer}
 use Rattle.model.specs.declared.Answer.the-variants as answer
 use Rattle.model.proofs.Below.{submission}
 use Rattle.model.proofs.Refused.{refused-same, passed-does}

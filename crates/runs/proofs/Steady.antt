@@ -8,7 +8,7 @@
 use Prim.Native.Nat.{ℕ, zero, suc, _^_, _≤_}
 use mathlib.Core.Path.{_≡_, refl, sym, _∙_}
 use mathlib.Core.Bool.{true, false, not, _||_}
-use mathlib.Core.List.{List, [], _∷_, _++_, append-assoc}
+use mathlib.Core.List.{List, [], _∷_, _++_}
 use mathlib.Core.Option.{Option, none, some}
 use lib.Dec.{ltb}
 use borrow.Author.Tests.{le-ltb}
@@ -27,8 +27,8 @@ use Rattle.model.proofs.Refused.{refused-exactly, passed-exactly, refused-same,
 use Rattle.model.proofs.State.{state-exactly}
 use Rattle.model.proofs.Kept.{says-formed, says-agent}
 use Rattle.runs.specs.Run.{kindIn, said, run}
-use Rattle.runs.specs.Round.{transmission, poll, Transmits, none-left, one-more, Polls, told-to-wait, one-report, Round, round, Step, calls, plays, Runs, ends, then-call, then-round}
-use Rattle.runs.specs.Demand.{SteadyAt, stepClock, Steady, NeverBad}
+use Rattle.runs.specs.Round.{transmission, poll, Transmits, none-left, one-more, Polls, told-to-wait, one-report, Round, round, Step, Runs, ends, then-call, then-round}
+use Rattle.runs.specs.Demand.{SteadyAt, Steady, NeverBad}
 
 pub record Ok (rows : ℕ) (tr : Transport) (set : RequestRto) (m : ℕ) (w : World) : Type 0 where
   pub formed : StateFormed rows w
@@ -92,10 +92,6 @@ module _ (rows : ℕ) (tr : Transport) (set : RequestRto) where
       go : (c : Option ℕ) → clockOf (kindIn t) ≡ c → SteadyAt c m K → Next t w K
       go none e h = record { floor = m; ok = ok-said m m w (kindIn t) (t .bytes) o (omega arith) (rw e (o .mark)); steady = h }
       go (some u) e h = record { floor = u; ok = ok-said m u w (kindIn t) (t .bytes) o (h .0) (rw e (omega arith)); steady = h .2 }
-
-  -- a transmission or a poll
-  pub ok-scan : (m : ℕ) (w : World) (s : Scan) (now : ℕ) (b : List ℕ) → Ok rows tr set m w → m ≤ now → Ok rows tr set now (saysOf rows w (scans s now) b .world)
-  ok-scan m w s now b o l = ok-said m now w (scans s now) b o l (omega arith)
 
 -- a run in two parts
 pub run-append : (rows : ℕ) (w : World) (rs bs : List Turn) → run rows w (rs ++ bs) ≡ run rows (run rows w rs) bs

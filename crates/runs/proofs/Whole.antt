@@ -1,8 +1,7 @@
 -- Demand 3 whole: the closed forms of two runs compared, and the last sentence.
 --     demand3     the theorem
 use Prim.Native.Nat.{ℕ}
-use mathlib.Core.Path.{_≡_}
-use mathlib.Core.List.{List, [], _∷_}
+use mathlib.Core.List.{List}
 use mathlib.Core.Option.{Option, none, some}
 use native.Mathlib.Omega.{arith}
 use Rattle.waits.specs.Waits.{waitsOf}

@@ -1,7 +1,7 @@
 -- Worked values: runs that meet the hypotheses of demand 3, and what they send and report.
-use Prim.Native.Nat.{ℕ, _^_}
+use Prim.Native.Nat.{ℕ}
 use mathlib.Core.Path.{_≡_}
-use mathlib.Core.Bool.{Bool, false}
+use mathlib.Core.Bool.{false}
 use mathlib.Core.List.{List, [], _∷_, map}
 use lib.ListN.{replicate}
 use Rattle.waits.specs.Waits.{milliseconds, defaultRto}

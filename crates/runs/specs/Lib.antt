@@ -1,3 +1,4 @@
+-- Runs, rounds and demand 3; each file cites only those above it.
 pub mod Run
 pub mod Round
 pub mod Times

@@ -1,6 +1,6 @@
 -- A round as a function, with a bound on its calls that is proved enough; and the run of steps from a world as a function.
 use Prim.Native.Nat.{ℕ, zero, suc, _+_, _-_}
-use mathlib.Core.Bool.{Bool, cond}
+use mathlib.Core.Bool.{cond}
 use mathlib.Core.List.{List, [], _∷_, _++_}
 use lib.ListN.{length}
 use Rattle.waits.specs.Waits.{waitsOf}
@@ -10,7 +10,6 @@ use Rattle.request.specs.declared.SendTimes.the-variants.{Never, Sent}
 use Rattle.request.specs.declared.StunRequestState.{StunRequestState}
 use Rattle.model.specs.World.{World}
 use Rattle.model.specs.Worked.{Turn}
-use Rattle.model.specs.declared.Answer.{Answer}
 use Rattle.model.specs.declared.Answer.the-variants as answer
 use Rattle.runs.specs.Run.{said, run, handsOut}
 use Rattle.runs.specs.Round.{transmission, poll, isReport, Step, calls, plays}

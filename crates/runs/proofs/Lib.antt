@@ -1,0 +1,12 @@
+-- Theorems about runs.
+pub mod Times
+pub mod Steady
+pub mod Spared
+pub mod One
+pub mod Present
+pub mod Demand
+pub mod Rests
+pub mod Last
+pub mod Whole
+pub mod Play
+mod Examples

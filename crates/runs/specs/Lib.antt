@@ -1,0 +1,9 @@
+-- Runs, rounds and demand 3; each file cites only those above it.
+pub mod Run
+pub mod Round
+pub mod Times
+pub mod Demand
+pub mod Last
+pub mod Whole
+pub mod Play
+pub mod Examples

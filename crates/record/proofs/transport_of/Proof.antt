@@ -1,0 +1,14 @@
+-- `record::transport_of` meets its contract.
+use mathlib.Core.Path.{_≡_}
+use borrow.Author.Tests.{eq-eqb, ne-eqb}
+use Rattle.record.proofs.transport_of.Statement.{statement}
+use Rattle.record.proofs.transport_of.Tie as tie
+
+returns : tie.Need-returns
+returns c = simp (eq-eqb _ _ (c .if1 .taken))
+
+returns-2 : tie.Need-returns-2
+returns-2 c = simp (ne-eqb _ _ (c .if1 .left))
+
+pub transport-of-spec : {M : Type 1} → statement M
+transport-of-spec = tie.close (tie.spec returns returns-2)

@@ -12,6 +12,9 @@ use model::Answer;
 use stats::Rtt;
 use stats::StunAgentStats;
 
+// No line is longer: its number and 14 fields of `stats`, of 20 digits each (proofs/Lengths).
+pub const LONGEST_LINE: usize = 321;
+
 // What a line says: the agent's answer, or `bad`.
 pub enum Reply {
     Told(Answer),

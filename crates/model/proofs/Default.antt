@@ -1,13 +1,14 @@
 -- An agent built with its settings left unset ends the last wait 8,000 ms after the last send: RFC 8489's default, where the Rust has
 -- 8 ms.
 --     build-refused, build-fresh    what `build` answers
+--     built-empty          a fresh agent has no request
 --     built-unset          settings left unset are the default's, and are never refused
 --     accepted-settings    an accepted request has its agent's settings
 --     unset-accepted       so one that it accepts after any calls has the default's, until it is configured
 --     last-wait-ends       such a request, all steps passed, has timed out exactly from 8,000 ms after its last send on
 --     only-wait-ends       by TCP from 39,500 ms after its only send on
 use Prim.Native.Nat.{ℕ, _+_, _≤_}
-use mathlib.Core.Path.{_≡_, ap, _∙_}
+use mathlib.Core.Path.{_≡_, refl, sym, ap, _∙_}
 use mathlib.Core.Bool.{Bool, true, false}
 use mathlib.Core.Logic.{_↔_}
 use mathlib.Core.List.{List}
@@ -20,6 +21,7 @@ use Rattle.waits.specs.declared.RequestRto.{RequestRto}
 use Rattle.waits.proofs.Limits.{within-limits}
 use Rattle.waits.proofs.Doubling.{default-final, default-span-stream}
 use Rattle.stats.specs.declared.StunAgentStats.{StunAgentStats}
+use Rattle.stats.specs.declared.Event.{Event}
 use Rattle.request.specs.Times.{passedAll}
 use Rattle.request.specs.Request.{pollOf}
 use Rattle.request.specs.declared.SendTimes.the-variants.{Sent}
@@ -30,6 +32,7 @@ use Rattle.model.specs.Refusals.{SETTINGS, numberOf}
 use Rattle.model.specs.Says.{Said}
 use Rattle.model.specs.Fresh.{freshAgent, freshEvent, unset, buildOf, fresh}
 use Rattle.model.specs.Runs.{Turn, left}
+use Rattle.model.specs.declared.StunAgent.{StunAgent}
 use Rattle.model.specs.declared.StunAgentBuilder.{StunAgentBuilder}
 use Rattle.model.specs.declared.Built.the-variants.{Refused, Fresh}
 use Rattle.model.proofs.Below.{default-limits, timed-out-exactly, submission}
@@ -44,6 +47,14 @@ module _ (b : StunAgentBuilder) where
   pub build-fresh : withinLimits (b .rto) ≡ true → buildOf b ≡ Fresh (freshAgent (b .transport) (b .stats) (b .rto)) (freshEvent (b .stats))
   unfolding buildOf
   build-fresh e = rw e
+
+  -- A fresh agent has no request.
+  pub built-empty : {a : StunAgent} {e : Event} → buildOf b ≡ Fresh a e → a .requests ≡ 0
+  built-empty {a} {e} h = go (withinLimits (b .rto)) refl
+    where
+      go : (ok : Bool) → withinLimits (b .rto) ≡ ok → a .requests ≡ 0
+      go true k = let q : Fresh (freshAgent (b .transport) (b .stats) (b .rto)) (freshEvent (b .stats)) ≡ Fresh a e = sym (build-fresh k) ∙ h in cc
+      go false k = let q : Refused (numberOf SETTINGS) ≡ Fresh a e = sym (build-refused k) ∙ h in cc
 
   -- Whatever else was set.
   pub built-unset : b .rto ≡ unset (b .transport) .rto → buildOf b ≡ Fresh (freshAgent (b .transport) (b .stats) defaultRto) (freshEvent (b .stats))

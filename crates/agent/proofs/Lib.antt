@@ -7,3 +7,4 @@ mod Table
 mod Named
 mod Scans
 mod Received
+mod Submits

@@ -8,3 +8,4 @@ mod Named
 mod Scans
 mod Received
 mod Submits
+mod Arms

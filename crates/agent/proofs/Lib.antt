@@ -9,3 +9,4 @@ mod Scans
 mod Received
 mod Submits
 mod Arms
+pub mod Theorems

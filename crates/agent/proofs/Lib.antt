@@ -7,3 +7,5 @@ mod Table
 mod Named
 mod Scans
 mod Received
+mod Submits
+mod Arms

@@ -30,7 +30,7 @@ use Rattle.model.specs.Calls.{Kind, wishSettings, onSome}
 use Rattle.model.specs.Calls as model
 use Rattle.model.specs.Accepts.{newPeer}
 use Rattle.model.specs.Refusals.{refusalPast}
-use Rattle.model.specs.Effects.{Change, keeps, adds, removes, sets, steps, changed, countAfter, changeOf, answerOf, eventOf, after}
+use Rattle.model.specs.Effects.{Change, keeps, adds, removes, sets, steps, changed, countAfter, changeOf, storedBy, answerOf, eventOf, after}
 use Rattle.model.specs.declared.StunAgent.{StunAgent}
 use Rattle.model.specs.declared.Answer.{Answer}
 use Rattle.model.specs.declared.Answer.the-variants as answer
@@ -170,3 +170,12 @@ Receiving a from isKnown places clock m t t′ r =
     (store : List ℕ) (peers : List Address) (st : StunAgentStats)
     → length peers ≡ places → known (worldOf a t store peers st) from ≡ isKnown
     → Acts (worldOf a t store peers st) (model.carries (model.receives from clock)) m t t′ r
+
+-- A request to be sent, and every byte of the store after it.
+pub record Submits (w : World) (to : Address) (now : ℕ) (m t t′ store′ : List ℕ) (r : Called) : Type 0 where
+  pub acts : Acts w (model.carries (model.submits to now)) m t t′ r
+  pub stores : store′ ≡ storedBy 32 (w .store) m (changePast 32 w (model.carries (model.submits to now)) m)
+
+abbrev pub Submitting : StunAgent → Address → ℕ → List ℕ → List ℕ → List ℕ → List ℕ → List ℕ → Called → Type 0
+Submitting a to now m t store t′ store′ r =
+    (peers : List Address) (st : StunAgentStats) → Submits (worldOf a t store peers st) to now m t t′ store′ r

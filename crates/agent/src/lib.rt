@@ -5,17 +5,20 @@
 // The agent's calls over the table and the store that the host lends. The types are the model's, which is another crate, so that the
 // Rust's methods are functions here.
 use address::Address;
+use address::Host;
 use message::Message;
 use message::MessageClass;
 use message::Parsed;
 use message::TransactionId;
 use model::Answer;
 use model::Built;
+use model::Call;
 use model::StunAgent;
 use model::StunAgentBuilder;
 use records::WIDTH;
 use request::StunRequestState;
 use requests::Found;
+use requests::FreeRow;
 use requests::Polled;
 use requests::Transmitted;
 use stats::Event;
@@ -38,7 +41,8 @@ ghost use Rattle.model.specs.Effects.{sentAs, receivedAs, handedOut};
 ghost use Rattle.model.specs.Refusals.{isRequest};
 ghost use Rattle.model.specs.Fresh.{unset, buildOf};
 ghost use Rattle.agent.specs.Ready.{ready, Lent, HandsOut};
-ghost use Rattle.agent.specs.Called.{calledOf, refusedWith, noted, isLate, isUnfit, wishOf, altered, optionOf, isPast, markBy, rttBy, Timely, Everywhere, Counting, Meeting, Carrying, Looking, Turning, Receiving};
+ghost use Rattle.agent.specs.Called.{calledOf, refusedWith, noted, isLate, isUnfit, wishOf, altered, optionOf, isPast, markBy, rttBy, Timely, Everywhere, Counting, Meeting, Carrying, Looking, Turning, Submitting, Receiving};
+ghost use Rattle.agent.specs.Said.{nowhere, addressIn, Dispatched};
 
 // ---- a fresh agent
 
@@ -471,6 +475,55 @@ fn handed_out(request: StunRequestState) -> Answer
     }
 }
 
+// The first transmission is handed out here.
+fn send_request(
+    agent: StunAgent,
+    table: &mut [u64],
+    store: &mut [u8],
+    to: Address,
+    clock: u64,
+    message: &[u8],
+) -> Called
+    requires { ⌜ Lent agent (now table) ⌝ }
+    ensures { λ r. ⌜ Submitting agent to clock (now (message .entry)) (now (table .entry)) (now (store .entry)) (now (table .exit)) (now (store .exit)) r ⌝ }
+{
+    if is_late(agent, clock) {
+        return refused(agent, 3);
+    }
+    let len = message.len();
+    if len > ROW {
+        return refused(agent, 4);
+    }
+    let Parsed::Good(x) = Message::from_bytes(message) else {
+        return refused(agent, 5);
+    };
+    let class = x.class;
+    if !is_request(class) {
+        return refused(agent, 6);
+    }
+    let n = agent.requests;
+    let id = x.transaction_id;
+    let Found::Nothing = table::find(table, n, id) else {
+        return refused(agent, 7);
+    };
+    // 32 requests have all the rows, and fewer leave one free.
+    let FreeRow::Row(row) = formed::free_row(table, n) else {
+        return refused(agent, 8);
+    };
+    let transport = agent.transport;
+    let integrity = x.integrity;
+    let rto = agent.rto;
+    let q = StunRequestState::submitted(transport, clock, id, integrity, row, len, to, rto);
+    store::copy(store, row, message);
+    let at = table::place(table, n, id);
+    table::insert(table, n, at, q);
+    let mut next = agent;
+    next.mark = clock;
+    next.requests = n + 1;
+    let event = event_of(agent, Event::RequestSent(wide(len)));
+    done(next, handed_out(q), event, Place::Nowhere)
+}
+
 fn poll_transmit(agent: StunAgent, table: &mut [u64], clock: u64) -> Called
     requires { ⌜ Lent agent (now table) ⌝ }
     ensures { λ r. ⌜ Turning agent (scans transmits clock) (now (table .entry)) (now (table .exit)) r ⌝ }
@@ -692,4 +745,97 @@ fn handle_stun_message(
     ensures { λ r. ⌜ Receiving agent from known places none (now (message .entry)) (now (table .entry)) (now (table .exit)) r ⌝ }
 {
     handle_stun_message_internal(agent, table, from, Clock::Absent, known, places, message)
+}
+
+// ---- every call
+
+fn nowhere() -> Address
+    ensures { λ r. ⌜ r ≡ nowhere ⌝ }
+{
+    Address {
+        host: Host::V4(0),
+        port: 0,
+    }
+}
+
+// The address that a call carries.
+pub fn address_of(call: Call) -> Address
+    ensures { λ r. ⌜ r ≡ addressIn call ⌝ }
+{
+    match call {
+        Call::SendRequest { to, now: _ } => to,
+        Call::Send { to } => to,
+        Call::HandleStunMessageWithTime { from, now: _ } => from,
+        Call::HandleStunMessage { from } => from,
+        Call::PollTransmit { now: _ } => nowhere(),
+        Call::Poll { now: _ } => nowhere(),
+        Call::CancelRetransmissions { id: _ } => nowhere(),
+        Call::Cancel { id: _ } => nowhere(),
+        Call::ConfigureTimeout {
+            id: _,
+            initial: _,
+            retransmits: _,
+            last_retransmit: _,
+        } => nowhere(),
+        Call::ConfigureTimeoutWithMax { id: _, rto: _ } => nowhere(),
+        Call::RequestTransaction { id: _ } => nowhere(),
+        Call::IsValidatedPeer { addr } => addr,
+        Call::ValidatedPeer { addr } => addr,
+        Call::Stats => nowhere(),
+        Call::RttAverage => nowhere(),
+        Call::OutstandingRequests => nowhere(),
+        Call::Reset => nowhere(),
+    }
+}
+
+// Any call, of an agent and what the host lends, but for the peers and the record: `known` says whether the call's address is a peer,
+// `was` is the record. What is left to do is in the answer: the event to count, and the place of a new peer.
+pub fn dispatch(
+    agent: StunAgent,
+    call: Call,
+    known: bool,
+    places: usize,
+    was: StunAgentStats,
+    message: &[u8],
+    table: &mut [u64],
+    store: &mut [u8],
+) -> Called
+    ensures { λ r. ⌜ Dispatched agent call known places was (now (message .entry)) (now (table .entry)) (now (store .entry)) (now (table .exit)) (now (store .exit)) r ⌝ }
+{
+    if is_ready(agent, places, table, store) {
+        match call {
+            Call::SendRequest { to, now: clock } => {
+                send_request(agent, table, store, to, clock, message)
+            }
+            Call::Send { to } => send(agent, to, message),
+            Call::HandleStunMessageWithTime { from, now: clock } => {
+                handle_stun_message_with_time(agent, table, from, clock, known, places, message)
+            }
+            Call::HandleStunMessage { from } => {
+                handle_stun_message(agent, table, from, known, places, message)
+            }
+            Call::PollTransmit { now: clock } => poll_transmit(agent, table, clock),
+            Call::Poll { now: clock } => poll(agent, table, clock),
+            Call::CancelRetransmissions { id } => cancel_retransmissions(agent, table, id),
+            Call::Cancel { id } => cancel(agent, table, id),
+            Call::ConfigureTimeout {
+                id,
+                initial,
+                retransmits,
+                last_retransmit,
+            } => configure_timeout(agent, table, id, initial, retransmits, last_retransmit),
+            Call::ConfigureTimeoutWithMax { id, rto } => {
+                configure_timeout_with_max(agent, table, id, rto)
+            }
+            Call::RequestTransaction { id } => request_transaction(agent, table, id),
+            Call::IsValidatedPeer { addr } => is_validated_peer(agent, addr, known, places),
+            Call::ValidatedPeer { addr } => validated_peer(agent, addr, known, places),
+            Call::Stats => read_stats(agent, was),
+            Call::RttAverage => rtt_average(agent, was),
+            Call::OutstandingRequests => outstanding_requests(agent, was),
+            Call::Reset => reset(agent),
+        }
+    } else {
+        refused(agent, 1)
+    }
 }

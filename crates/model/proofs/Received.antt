@@ -29,7 +29,8 @@ use Rattle.requests.specs.Search.{lookup, requestOf}
 use Rattle.requests.specs.declared.Found.the-variants.{At, Nothing}
 use Rattle.requests.proofs.Lists.{apart}
 use Rattle.requests.proofs.Search.{lookup-taken, lookup-taken-other}
-use Rattle.model.specs.World.{World, StateFormed, listed, known}
+use Rattle.peers.specs.Peers.{listed}
+use Rattle.model.specs.World.{World, StateFormed, known}
 use Rattle.model.specs.Calls.{receives, Kind, carries}
 use Rattle.model.specs.Accepts.{isResponse, accepts, validated, newPeer}
 use Rattle.model.specs.Refusals.{refusalOf}

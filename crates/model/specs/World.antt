@@ -2,16 +2,16 @@
 -- rows is a parameter, of which contracts say 32.
 use Prim.Native.Nat.{ℕ, _*_, _^_, _≤_}
 use mathlib.Core.Path.{_≡_}
-use mathlib.Core.Bool.{Bool, false, _&&_, _||_}
-use mathlib.Core.List.{List, [], _∷_}
+use mathlib.Core.Bool.{Bool, _&&_}
+use mathlib.Core.List.{List}
 use lib.Dec.{leb, eqb}
 use lib.ListN.{length, take}
-use Rattle.address.specs.Address.{sameAddress}
 use Rattle.address.specs.declared.Address.{Address}
 use Rattle.waits.specs.Waits as waits
 use Rattle.stats.specs.declared.StunAgentStats.{StunAgentStats}
 use Rattle.request.specs.declared.StunRequestState.{StunRequestState}
 use Rattle.requests.specs.Formed.{Formed, formed}
+use Rattle.peers.specs.Peers.{listed}
 use Rattle.model.specs.declared.StunAgent.{StunAgent}
 
 -- The agent, its outstanding requests, and what the host lends: the message store, the "list of peer addresses, whose length is its
@@ -46,10 +46,6 @@ stateFormed rows w =
     && (eqb (w .agent .requests) (length (w .requests))
     && (leb (w .agent .mark) (2 ^ 60) && (waits.withinLimits (w .agent .rto) && formed rows (w .agent .mark) (w .requests)))))
 
--- Whether an address is in a list, and whether it is a validated peer.
-abbrev pub listed : Address → List Address → Bool
-listed a [] = false
-listed a (p ∷ ps) = sameAddress p a || listed a ps
-
+-- Whether an address is a validated peer.
 abbrev pub known : World → Address → Bool
 known w a = listed a (take (w .agent .peers) (w .peers))

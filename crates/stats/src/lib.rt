@@ -268,3 +268,10 @@ impl StunAgentStats {
         }
     }
 }
+
+// The Rust's recorder on the lent record: it holds the new numbers afterwards.
+pub fn record(stats: &mut StunAgentStats, event: Event)
+    ensures { λ _. ⌜ now (stats .exit) ≡ counted event (now (stats .entry)) ⌝ }
+{
+    *stats = (*stats).after(event);
+}

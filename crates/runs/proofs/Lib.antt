@@ -9,4 +9,5 @@ pub mod Rests
 pub mod Last
 pub mod Whole
 pub mod Play
+pub mod Counts
 mod Examples

@@ -6,4 +6,5 @@ pub mod Demand
 pub mod Last
 pub mod Whole
 pub mod Play
+pub mod Counts
 pub mod Examples

@@ -1,15 +1,15 @@
 -- The ten counters over a run are counts and sums over its calls and answers.
 --     counters-are     from a fresh agent with statistics on, without a reset
 --     tallied          one call that isn't refused: its event adds to each counter what the call and its answer say
-use Prim.Native.Nat.{ℕ, zero, suc, _+_, _-_, _^_, min}
+use Prim.Native.Nat.{ℕ, zero, suc, _+_}
 use mathlib.Core.Path.{_≡_, refl, sym, ap, _∙_}
-use mathlib.Core.Bool.{Bool, true, false, cond, not, _||_}
+use mathlib.Core.Bool.{Bool, true, false, cond, _||_}
 use mathlib.Core.List.{List, [], _∷_}
 use native.Mathlib.Omega.{arith}
 use native.Mathlib.Nat.{add-zero, zero-add, add-assoc}
 use mathlib.Core.Option.{Option}
 use lib.ListN.{length}
-use borrow.Author.Tests.{ne-eqb}
+use borrow.Author.Tests.{ne-eqb, not-false}
 use Rattle.address.specs.declared.Address.{Address}
 use Rattle.message.specs.Head.{key}
 use Rattle.message.specs.Attributes.{messageOf}
@@ -32,45 +32,44 @@ use Rattle.requests.specs.declared.Transmitted.the-variants.{Sends, Quiet}
 use Rattle.requests.specs.declared.Polled.{Polled}
 use Rattle.requests.specs.declared.Polled.the-variants.{TimedOut, Cancelled, WaitUntil}
 use Rattle.requests.proofs.Lists.{apart, neither}
-use Rattle.model.specs.World.{World, StateFormed}
+use Rattle.model.specs.World.{World, StateFormed, stateFormed}
 use Rattle.model.specs.Calls.{submits, sends, receives, transmits, reports, numbers, mean, unsettled, anew, Kind, carries, scans, names, meets, counts}
-use Rattle.model.specs.Accepts.{onMessage, isResponse, accepts}
-use Rattle.model.specs.Refusals.{BAD-MESSAGE, WRONG-CLASS, wrongFor, isRequest, refusalOf}
-use Rattle.model.specs.Effects.{transmitAnswer, pollAnswer, yesOrNo, sentAs, receivedAs, rttAt, transmitEvent, pollEvent, eventBy, eventOf, answerOf}
+use Rattle.model.specs.Accepts.{onMessage, accepts}
+use Rattle.model.specs.Refusals.{STATE, BAD-MESSAGE, WRONG-CLASS, isRequest, refusalOf}
+use Rattle.model.specs.Effects.{transmitAnswer, pollAnswer, yesOrNo, sentAs, receivedAs, rttAt, transmitEvent, pollEvent, eventBy}
 use Rattle.model.specs.Says.{Said, saysOf}
 use Rattle.model.specs.Fresh.{freshEvent}
 use Rattle.model.specs.Runs.{Turn}
-use Rattle.model.specs.declared.Answer.{Answer}
 use Rattle.model.specs.declared.Answer.the-variants as answer
 use Rattle.model.proofs.Refused.{passed-exactly, refused-same}
-use Rattle.model.proofs.State.{fresh-formed}
+use Rattle.model.proofs.State.{state-exactly}
 use Rattle.model.proofs.Classes.{done, event-on, answer-sends, answer-receives, answer-transmits, answer-reports}
 use Rattle.model.proofs.Statistics.{counts-event}
-use Rattle.model.proofs.Kept.{says-formed, says-agent}
+use Rattle.model.proofs.Kept.{says-agent}
 use Rattle.model.proofs.Store.{request-accepted}
 use Rattle.runs.specs.Run.{kindIn, said, run}
-use Rattle.runs.specs.Demand.{Start, begins, Fit}
-use Rattle.runs.specs.Counts.{Exchange, exchange, history, requestsSent, requestsReceived, responsesSent, responsesReceived, indicationsSent, indicationsReceived, timedOut, cancelled, bytesSent, bytesReceived, total, stopped, Counters, resets, NoReset}
+use Rattle.runs.specs.Demand.{Start, begins}
+use Rattle.runs.specs.Counts.{Exchange, seen, exchange, history, requestsSent, requestsReceived, responsesSent, responsesReceived, indicationsSent, indicationsReceived, timedOut, cancelled, bytesSent, bytesReceived, total, stopped, Counters, resets, NoReset}
 
 -- What a move adds, and the ten counters side by side.
-abbrev amount : Move → ℕ
+abbrev pub amount : Move → ℕ
 amount same = 0
 amount fresh = 0
 amount (up n) = n
 
-record Amounts : Type 0 where
-  requestsSent : ℕ
-  requestsReceived : ℕ
-  responsesSent : ℕ
-  responsesReceived : ℕ
-  indicationsSent : ℕ
-  indicationsReceived : ℕ
-  timedOut : ℕ
-  cancelled : ℕ
-  bytesSent : ℕ
-  bytesReceived : ℕ
+pub record Amounts : Type 0 where
+  pub requestsSent : ℕ
+  pub requestsReceived : ℕ
+  pub responsesSent : ℕ
+  pub responsesReceived : ℕ
+  pub indicationsSent : ℕ
+  pub indicationsReceived : ℕ
+  pub timedOut : ℕ
+  pub cancelled : ℕ
+  pub bytesSent : ℕ
+  pub bytesReceived : ℕ
 
-abbrev amountsOf : Event → Amounts
+abbrev pub amountsOf : Event → Amounts
 amountsOf v = record {
   requestsSent = amount (movesOf v .requestsSent);
   requestsReceived = amount (movesOf v .requestsReceived);
@@ -84,7 +83,7 @@ amountsOf v = record {
   bytesReceived = amount (movesOf v .bytesReceived);
 }
 
-abbrev amountsIn : Exchange → Amounts
+abbrev pub amountsIn : Exchange → Amounts
 amountsIn e = record {
   requestsSent = requestsSent e;
   requestsReceived = requestsReceived e;
@@ -97,9 +96,6 @@ amountsIn e = record {
   bytesSent = bytesSent e;
   bytesReceived = bytesReceived e;
 }
-
-abbrev seen : Kind → List ℕ → Answer → Exchange
-seen k m a = record { about = k; bytes = m; answer = a }
 
 -- ---- one call that isn't refused, by its class
 
@@ -145,11 +141,15 @@ poll-tallied now m (TimedOut i id) = refl
 poll-tallied now m (Cancelled i id) = refl
 poll-tallied now m (WaitUntil clock) = refl
 
-module _ (rows : ℕ) (w : World) (m : List ℕ) (formed : StateFormed rows w) where
+-- Where a call isn't refused, the world is well formed.
+pub passed-formed : (rows : ℕ) (w : World) (k : Kind) (m : List ℕ) → refusalOf rows w k m ≡ 0 → StateFormed rows w
+passed-formed rows w k m e = state-exactly rows w .0 (not-false (stateFormed rows w) (passed-exactly rows w k m .0 e STATE))
+
+module _ (rows : ℕ) (w : World) (m : List ℕ) where
   tallied : (k : Kind) → resets k ≡ false → refusalOf rows w k m ≡ 0
       → amountsOf (eventBy w k m) ≡ amountsIn (seen k m (saysOf rows w k m .answer))
   tallied (carries (submits to now)) kept e =
-      let a = request-accepted rows w to now m formed e in
+      let a = request-accepted rows w to now m (passed-formed rows w (carries (submits to now)) m e) e in
       rw (a .answers, a .reads, a .class-is, add-zero)
   tallied (carries (sends to)) kept e =
       let passes = passed-exactly rows w (carries (sends to)) m .0 e in
@@ -175,7 +175,7 @@ module _ (rows : ℕ) (w : World) (m : List ℕ) (formed : StateFormed rows w) w
 
 -- ---- one call, refused or not
 
-refused-tallied : (n : ℕ) (m : List ℕ) (k : Kind) → amountsOf event.Nothing ≡ amountsIn (seen k m (answer.Refused (suc n)))
+pub refused-tallied : (n : ℕ) (m : List ℕ) (k : Kind) → amountsOf event.Nothing ≡ amountsIn (seen k m (answer.Refused (suc n)))
 refused-tallied n m (carries (submits to now)) = refl
 refused-tallied n m (carries (sends to)) = rw (ne-eqb (suc n) 0 (λ z. omega arith))
 refused-tallied n m (carries (receives from clock)) = refl
@@ -247,15 +247,15 @@ pub record Counted (rows : ℕ) (w : World) (k : Kind) (m : List ℕ) : Type 0 w
   pub stats : saysOf rows w k m .world .stats ≡ counted event (w .stats)
   pub adds : amountsOf event ≡ amountsIn (seen k m (saysOf rows w k m .answer))
 
-pub counts-call : (rows : ℕ) (w : World) (k : Kind) (m : List ℕ) → StateFormed rows w → w .agent .stats ≡ true → resets k ≡ false → Counted rows w k m
-counts-call rows w k m formed on kept = go (refusalOf rows w k m) refl
+pub counts-call : (rows : ℕ) (w : World) (k : Kind) (m : List ℕ) → w .agent .stats ≡ true → resets k ≡ false → Counted rows w k m
+counts-call rows w k m on kept = go (refusalOf rows w k m) refl
   where
     go : (n : ℕ) → refusalOf rows w k m ≡ n → Counted rows w k m
     go zero e = record {
       event = eventBy w k m;
       kept = no-reset w m k kept;
       stats = counts-event rows w k m e ∙ ap (λ (v : Event). counted v (w .stats)) (event-on rows w k m on);
-      adds = tallied rows w m formed k kept e;
+      adds = tallied rows w m k kept e;
     }
     go (suc n) e = record {
       event = event.Nothing;
@@ -287,20 +287,19 @@ module _ (get : StunAgentStats → ℕ) (moves : Moves → Move) (part : Amounts
       moves-it v s ∙ ap (moved (moves (movesOf v))) h ∙ rises (moves (movesOf v)) n (never-fresh v kept)
       ∙ ap (λ (k : ℕ). stopped (n + k)) (sym (is-part v) ∙ ap part adds)
 
-  grows : (ts : List Turn) (w : World) (n : ℕ) → StateFormed rows w → w .agent .stats ≡ true → NoReset ts → get (w .stats) ≡ stopped n
+  grows : (ts : List Turn) (w : World) (n : ℕ) → w .agent .stats ≡ true → NoReset ts → get (w .stats) ≡ stopped n
       → get (run rows w ts .stats) ≡ stopped (n + total (λ e. part (amountsIn e)) (history rows w ts))
   unfolding run history
-  grows [] w n formed on kept h = rw add-zero h
-  grows (t ∷ ts) w n formed on kept h =
-      let c = counts-call rows w (kindIn t) (t .bytes) formed on (kept .0) in
+  grows [] w n on kept h = rw add-zero h
+  grows (t ∷ ts) w n on kept h =
+      let c = counts-call rows w (kindIn t) (t .bytes) on (kept .0) in
       let one = ap get (c .stats) ∙ grows-by n (c .event) (w .stats) (exchange rows w t) (c .kept) (c .adds) h in
-      let rest = grows ts (said rows w t .world) (n + part (amountsIn (exchange rows w t))) (says-formed rows w (kindIn t) (t .bytes) formed)
-      (says-agent rows w (kindIn t) (t .bytes) .stats ∙ on) (kept .1) one in
+      let rest = grows ts (said rows w t .world) (n + part (amountsIn (exchange rows w t))) (says-agent rows w (kindIn t) (t .bytes) .stats ∙ on) (kept .1) one in
       rest ∙ ap stopped (add-assoc n (part (amountsIn (exchange rows w t))) (total (λ e. part (amountsIn e)) (history rows (said rows w t .world) ts)))
 
-  from-zero : (ts : List Turn) (w : World) → StateFormed rows w → w .agent .stats ≡ true → NoReset ts → get (w .stats) ≡ 0
+  from-zero : (ts : List Turn) (w : World) → w .agent .stats ≡ true → NoReset ts → get (w .stats) ≡ 0
       → get (run rows w ts .stats) ≡ stopped (total (λ e. part (amountsIn e)) (history rows w ts))
-  from-zero ts w formed on kept h = grows ts w 0 formed on kept h ∙ ap stopped (zero-add (total (λ e. part (amountsIn e)) (history rows w ts)))
+  from-zero ts w on kept h = grows ts w 0 on kept h ∙ ap stopped (zero-add (total (λ e. part (amountsIn e)) (history rows w ts)))
 
 -- ---- the ten of them
 
@@ -362,40 +361,39 @@ steady v e =
       bytesReceived = j .1;
     }
 
-pub counters-are : (rows : ℕ) (s : Start) (ts : List Turn) → Fit rows s → s .stats ≡ true → NoReset ts
+pub counters-are : (rows : ℕ) (s : Start) (ts : List Turn) → s .stats ≡ true → NoReset ts
     → Counters (history rows (begins s) ts) (run rows (begins s) ts .stats)
-counters-are rows s ts fit on kept =
-    let formed = fresh-formed rows (s .transport) (s .stats) (s .rto) (s .store) (s .peers) (s .counters) (fit .limits) (fit .room) in
+counters-are rows s ts on kept =
     let zero-is : begins s .stats ≡ zeroed = ap (λ (b : Bool). counted (freshEvent b) (s .counters)) on ∙ sym (reset (s .counters)) in
     record {
       requests-sent =
           from-zero (λ s. s .«requests_sent») (λ m. m .requestsSent) (λ a. a .requestsSent) (λ v s. counters-moved v s .requestsSent) (λ v e. steady v e .requestsSent) (λ v. refl) rows ts (begins s)
-          formed on kept (ap (λ (x : StunAgentStats). x .«requests_sent») zero-is);
+          on kept (ap (λ (x : StunAgentStats). x .«requests_sent») zero-is);
       requests-received =
           from-zero (λ s. s .«requests_received») (λ m. m .requestsReceived) (λ a. a .requestsReceived) (λ v s. counters-moved v s .requestsReceived) (λ v e. steady v e .requestsReceived) (λ v. refl) rows ts (begins s)
-          formed on kept (ap (λ (x : StunAgentStats). x .«requests_received») zero-is);
+          on kept (ap (λ (x : StunAgentStats). x .«requests_received») zero-is);
       responses-sent =
           from-zero (λ s. s .«responses_sent») (λ m. m .responsesSent) (λ a. a .responsesSent) (λ v s. counters-moved v s .responsesSent) (λ v e. steady v e .responsesSent) (λ v. refl) rows ts (begins s)
-          formed on kept (ap (λ (x : StunAgentStats). x .«responses_sent») zero-is);
+          on kept (ap (λ (x : StunAgentStats). x .«responses_sent») zero-is);
       responses-received =
           from-zero (λ s. s .«responses_received») (λ m. m .responsesReceived) (λ a. a .responsesReceived) (λ v s. counters-moved v s .responsesReceived) (λ v e. steady v e .responsesReceived) (λ v. refl) rows ts (begins s)
-          formed on kept (ap (λ (x : StunAgentStats). x .«responses_received») zero-is);
+          on kept (ap (λ (x : StunAgentStats). x .«responses_received») zero-is);
       indications-sent =
           from-zero (λ s. s .«indications_sent») (λ m. m .indicationsSent) (λ a. a .indicationsSent) (λ v s. counters-moved v s .indicationsSent) (λ v e. steady v e .indicationsSent) (λ v. refl) rows ts (begins s)
-          formed on kept (ap (λ (x : StunAgentStats). x .«indications_sent») zero-is);
+          on kept (ap (λ (x : StunAgentStats). x .«indications_sent») zero-is);
       indications-received =
           from-zero (λ s. s .«indications_received») (λ m. m .indicationsReceived) (λ a. a .indicationsReceived) (λ v s. counters-moved v s .indicationsReceived) (λ v e. steady v e .indicationsReceived) (λ v. refl) rows ts (begins s)
-          formed on kept (ap (λ (x : StunAgentStats). x .«indications_received») zero-is);
+          on kept (ap (λ (x : StunAgentStats). x .«indications_received») zero-is);
       transactions-timed-out =
           from-zero (λ s. s .«transactions_timed_out») (λ m. m .timedOut) (λ a. a .timedOut) (λ v s. counters-moved v s .timedOut) (λ v e. steady v e .timedOut) (λ v. refl) rows ts (begins s)
-          formed on kept (ap (λ (x : StunAgentStats). x .«transactions_timed_out») zero-is);
+          on kept (ap (λ (x : StunAgentStats). x .«transactions_timed_out») zero-is);
       transactions-cancelled =
           from-zero (λ s. s .«transactions_cancelled») (λ m. m .cancelled) (λ a. a .cancelled) (λ v s. counters-moved v s .cancelled) (λ v e. steady v e .cancelled) (λ v. refl) rows ts (begins s)
-          formed on kept (ap (λ (x : StunAgentStats). x .«transactions_cancelled») zero-is);
+          on kept (ap (λ (x : StunAgentStats). x .«transactions_cancelled») zero-is);
       bytes-sent =
           from-zero (λ s. s .«bytes_sent») (λ m. m .bytesSent) (λ a. a .bytesSent) (λ v s. counters-moved v s .bytesSent) (λ v e. steady v e .bytesSent) (λ v. refl) rows ts (begins s)
-          formed on kept (ap (λ (x : StunAgentStats). x .«bytes_sent») zero-is);
+          on kept (ap (λ (x : StunAgentStats). x .«bytes_sent») zero-is);
       bytes-received =
           from-zero (λ s. s .«bytes_received») (λ m. m .bytesReceived) (λ a. a .bytesReceived) (λ v s. counters-moved v s .bytesReceived) (λ v e. steady v e .bytesReceived) (λ v. refl) rows ts (begins s)
-          formed on kept (ap (λ (x : StunAgentStats). x .«bytes_received») zero-is);
+          on kept (ap (λ (x : StunAgentStats). x .«bytes_received») zero-is);
     }

@@ -1,5 +1,5 @@
 -- Demand 3 of one run: its sends and its timeout in closed form, few and spaced.
---     fresh-ok, fit-ok, fresh-never-bad     from fresh no call of a run with steady clocks is refused by 1 or 3
+--     fit-formed, fresh-ok, fit-ok, fresh-never-bad     from fresh no call of a run with steady clocks is refused by 1 or 3
 --     began-formed                  where a call isn't refused by 1, the agent began well formed
 --     closed-form                   the sends and the timeout of one run
 --     each-run                      what demand 3 says of it
@@ -78,7 +78,7 @@ unformed-run rows w (t ∷ ts) e =
     rw same (unformed-run rows w ts e)
 
 module _ (rows : ℕ) (s : Start) where
-  fit-formed : Fit rows s → StateFormed rows (begins s)
+  pub fit-formed : Fit rows s → StateFormed rows (begins s)
   fit-formed fit = fresh-formed rows (s .transport) (s .stats) (s .rto) (s .store) (s .peers) (s .counters) (fit .limits) (fit .room)
 
   pub fresh-ok : StateFormed rows (begins s) → Ok rows (s .transport) (s .rto) 0 (begins s)

@@ -10,4 +10,5 @@ pub mod Last
 pub mod Whole
 pub mod Play
 pub mod Counts
+pub mod Conserved
 mod Examples

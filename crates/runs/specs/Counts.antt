@@ -14,7 +14,7 @@ use Rattle.message.specs.declared.MessageClass.{MessageClass}
 use Rattle.message.specs.declared.MessageClass.the-variants.{Request, Indication, Success, Error}
 use Rattle.stats.specs.declared.StunAgentStats.{StunAgentStats}
 use Rattle.model.specs.World.{World}
-use Rattle.model.specs.Calls.{Passage, submits, sends, receives, Scan, transmits, reports, Figure, numbers, mean, unsettled, anew, Kind, carries, scans, names, meets, counts, passageOf, figureOf, onSome}
+use Rattle.model.specs.Calls.{Passage, submits, sends, receives, transmits, reports, Figure, numbers, mean, unsettled, anew, Kind, carries, scans, names, meets, counts, passageOf, figureOf, onSome}
 use Rattle.model.specs.Accepts.{onMessage, isResponse}
 use Rattle.model.specs.Refusals.{isRequest}
 use Rattle.model.specs.Says.{numberIn}
@@ -31,8 +31,11 @@ pub record Exchange : Type 0 where
   pub bytes : List ℕ
   pub answer : Answer
 
+abbrev pub seen : Kind → List ℕ → Answer → Exchange
+seen k m a = record { about = k; bytes = m; answer = a }
+
 abbrev pub exchange : ℕ → World → Turn → Exchange
-exchange rows w t = record { about = kindIn t; bytes = t .bytes; answer = said rows w t .answer }
+exchange rows w t = seen (kindIn t) (t .bytes) (said rows w t .answer)
 
 -- Every call of a run.
 unfoldable pub history : ℕ → World → List Turn → List Exchange

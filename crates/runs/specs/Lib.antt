@@ -7,4 +7,5 @@ pub mod Last
 pub mod Whole
 pub mod Play
 pub mod Counts
+pub mod Conserved
 pub mod Examples

@@ -11,4 +11,5 @@ pub mod Whole
 pub mod Play
 pub mod Counts
 pub mod Conserved
+pub mod Followed
 mod Examples

@@ -8,4 +8,6 @@ pub mod Whole
 pub mod Play
 pub mod Counts
 pub mod Conserved
+pub mod Ends
+pub mod Followed
 pub mod Examples

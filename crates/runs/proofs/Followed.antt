@@ -331,7 +331,7 @@ module _ (rows x : ℕ) (w : World) (m : List ℕ) where
   refused-followed n (meets a y) o = refl
   refused-followed n (counts f) o = refl
 
-  refused-does : (n : ℕ) (k : Kind) → (submitsBy x k (answer.Refused n) ≡ false) × (endBy x k m (answer.Refused n) ≡ none)
+  pub refused-does : (n : ℕ) (k : Kind) → (submitsBy x k (answer.Refused n) ≡ false) × (endBy x k m (answer.Refused n) ≡ none)
   refused-does n (carries (submits to now)) = (refl, refl)
   refused-does n (carries (sends to)) = (refl, refl)
   refused-does n (carries (receives from clock)) = (refl, refl)

@@ -12,4 +12,5 @@ pub mod Play
 pub mod Counts
 pub mod Conserved
 pub mod Followed
+pub mod Ends
 mod Examples

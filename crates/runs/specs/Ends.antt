@@ -1,7 +1,7 @@
 -- The life of a request in a run, by the run's calls and answers: it is accepted, and then answered, reported timed out, reported cancelled
 -- or still in the table, exactly one of them; after its end nothing of it is sent, until a request with its identifier is accepted again.
 -- Requests are told apart by their identifier as one number, x.
-use Prim.Native.Nat.{ℕ, _+_}
+use Prim.Native.Nat.{ℕ}
 use mathlib.Core.Path.{_≡_}
 use mathlib.Core.Bool.{Bool, true, false, cond, _&&_}
 use mathlib.Core.Logic.{_⊎_}
@@ -11,13 +11,13 @@ use lib.Dec.{eqb}
 use Rattle.message.specs.Head.{key}
 use Rattle.message.specs.Attributes.{messageOf}
 use Rattle.model.specs.World.{World}
-use Rattle.model.specs.Calls.{Passage, submits, sends, receives, transmits, reports, Kind, carries, scans, names, meets, counts, onSome}
+use Rattle.model.specs.Calls.{submits, sends, receives, transmits, reports, Kind, carries, scans, names, meets, counts, onSome}
 use Rattle.model.specs.Accepts.{onMessage, isResponse, isFound}
 use Rattle.model.specs.declared.Answer.{Answer}
 use Rattle.model.specs.declared.Answer.the-variants as answer
 use Rattle.requests.specs.Search.{lookup}
 use Rattle.runs.specs.Run.{handsOutIt}
-use Rattle.runs.specs.Counts.{Exchange, isYes, timedOutIn, cancelledIn, one, reportBy, total}
+use Rattle.runs.specs.Counts.{Exchange, isYes, one, total}
 
 -- ---- one call
 

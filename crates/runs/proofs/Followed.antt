@@ -1,5 +1,6 @@
 -- A request of the table is the request as the calls left it: what one call does to the request x, by its message and answer.
 --     Traced, traced            one call, refused or not
+--     handed                    only `send_request` and `poll_transmit` hand it out
 --     follows, follows-fresh    a run, from any world and from a fresh agent
 use Prim.Native.Nat.{ℕ, zero, suc, _+_}
 use mathlib.Core.Path.{_≡_, refl, sym, ap, _∙_}
@@ -44,9 +45,10 @@ use Rattle.model.specs.Refusals.{refusalOf}
 use Rattle.model.specs.Effects.{onFound, keeps, removes, changed, reported, wished, yesOrNo, transmitAnswer, pollAnswer, wishAnswer, meetingAnswer, figureAnswer}
 use Rattle.model.specs.Says.{numberIn, saysOf}
 use Rattle.model.specs.Runs.{Turn}
+use Rattle.model.specs.declared.Answer.{Answer}
 use Rattle.model.specs.declared.Answer.the-variants as answer
 use Rattle.model.proofs.Refused.{refused-same}
-use Rattle.model.proofs.Classes.{done, change-names, answer-sends, answer-receives, answer-names, answer-meets, answer-counts}
+use Rattle.model.proofs.Classes.{done, change-names, answer-sends, answer-receives, answer-reports, answer-names, answer-meets, answer-counts}
 use Rattle.model.proofs.Answers.{answer-number}
 use Rattle.model.proofs.Received.{response-found, response-taken}
 use Rattle.model.proofs.Kept.{says-agent}
@@ -58,6 +60,17 @@ use Rattle.runs.specs.Ends.{End, by-timeout, by-cancel, submitsBy, respo
 use Rattle.runs.specs.Followed.{reaches, wishedOf, mapped, followedBy, followed, followedThrough}
 use Rattle.runs.proofs.Spared.{ScanSaid, passed-spares, scan-said, ended-other, not-found, requests-after}
 use Rattle.runs.proofs.Counts.{passed-formed}
+
+-- The calls that hand a request out.
+abbrev pub handedBy : ℕ → Kind → Answer → Bool
+handedBy x (carries (submits to now)) a = handsOutIt x a
+handedBy x (carries (sends to)) a = false
+handedBy x (carries (receives from clock)) a = false
+handedBy x (scans transmits now) a = handsOutIt x a
+handedBy x (scans reports now) a = false
+handedBy x (names id wish) a = false
+handedBy x (meets addr y) a = false
+handedBy x (counts f) a = false
 
 pub record Traced (rows x : ℕ) (w : World) (k : Kind) (m : List ℕ) : Type 0 where
   pub after : requestOf (lookup x (saysOf rows w k m .world .requests))
@@ -76,6 +89,47 @@ choice-unsent x true = refl
 choice-unsent x false = refl
 
 module _ (rows x : ℕ) (w : World) (m : List ℕ) where
+  -- ---- only `send_request` and `poll_transmit` hand x out
+
+  heard-unsent : (p : Parsed) (takes : Message → Bool) → handsOutIt x (onMessage p answer.No (λ y. yesOrNo (takes y))) ≡ false
+  heard-unsent Bad takes = refl
+  heard-unsent (Good y) takes = choice-unsent x (takes y)
+
+  poll-unsent : (o : Polled) → handsOutIt x (pollAnswer o) ≡ false
+  poll-unsent (TimedOut i id) = refl
+  poll-unsent (Cancelled i id) = refl
+  poll-unsent (WaitUntil clock) = refl
+
+  wish-unsent : (wish : Wish) (f : Found) → handsOutIt x (onFound f answer.None (λ i r. wishAnswer wish r)) ≡ false
+  wish-unsent wish Nothing = refl
+  wish-unsent silence (At i r) = refl
+  wish-unsent cancel (At i r) = refl
+  wish-unsent (configure rto) (At i r) = refl
+  wish-unsent query (At i r) = refl
+
+  figure-unsent : (f : Figure) → handsOutIt x (figureAnswer w f) ≡ false
+  figure-unsent numbers = refl
+  figure-unsent mean = refl
+  figure-unsent unsettled = refl
+  figure-unsent anew = refl
+
+  meeting-unsent : (a : Address) (y : Meeting) → handsOutIt x (meetingAnswer w a y) ≡ false
+  meeting-unsent a ask = choice-unsent x (known w a)
+  meeting-unsent a validate = refl
+
+  handed-passed : (k : Kind) → refusalOf rows w k m ≡ 0 → handsOutIt x (saysOf rows w k m .answer) ≡ handedBy x k (saysOf rows w k m .answer)
+  handed-passed (carries (submits to now)) e = refl
+  handed-passed (carries (sends to)) e = rw (done rows w (carries (sends to)) m e .answer, answer-sends rows w m to)
+  handed-passed (carries (receives from clock)) e =
+      rw (done rows w (carries (receives from clock)) m e .answer, answer-receives rows w m from clock) (heard-unsent (messageOf m) (accepts (w .requests) from))
+  handed-passed (scans transmits now) e = refl
+  handed-passed (scans reports now) e =
+      rw (done rows w (scans reports now) m e .answer, answer-reports rows w m now) (poll-unsent (pollAll (w .agent .transport) now (w .requests)))
+  handed-passed (names id wish) e =
+      rw (done rows w (names id wish) m e .answer, answer-names rows w m id wish) (wish-unsent wish (lookup (key id) (w .requests)))
+  handed-passed (meets a y) e = rw (done rows w (meets a y) m e .answer, answer-meets rows w m a y) (meeting-unsent a y)
+  handed-passed (counts f) e = rw (done rows w (counts f) m e .answer, answer-counts rows w m f) (figure-unsent f)
+
   -- ---- `send_request`
 
   traced-submits : (to : Address) (now : ℕ) → StateFormed rows w → refusalOf rows w (carries (submits to now)) m ≡ 0
@@ -138,20 +192,16 @@ module _ (rows x : ℕ) (w : World) (m : List ℕ) where
               ∙ ap requestOf (response-taken rows w from clock m y r (a .0) e (f .0) (f .1) (b .0) (f .2) formed),
         )
 
-    heard-unsent : (p : Parsed) (takes : Message → Bool) → handsOutIt x (onMessage p answer.No (λ y. yesOrNo (takes y))) ≡ false
-    heard-unsent Bad takes = refl
-    heard-unsent (Good y) takes = choice-unsent x (takes y)
-
     traced-receives : Traced rows x w (carries (receives from clock)) m
     traced-receives = go (handles x w (carries (receives from clock)) m) refl
       where
         go : (b : Bool) → handles x w (carries (receives from clock)) m ≡ b → Traced rows x w (carries (receives from clock)) m
         go true b =
             let t = taken-out (messageOf m) refl b in
-            record { after = t .1 ∙ rw (handled-is, b); unsent = λ n. rw answer-is (heard-unsent (messageOf m) (accepts (w .requests) from)); unended = λ n. absurd (t .0 n); once = λ r f. refl }
+            record { after = t .1 ∙ rw (handled-is, b); unsent = λ n. handed-passed (carries (receives from clock)) e; unended = λ n. absurd (t .0 n); once = λ r f. refl }
         go false b =
             let s = passed-spares rows x w formed (carries (receives from clock)) m refl e b in
-            record { after = s .kept ∙ rw (handled-is, b); unsent = λ n. rw answer-is (heard-unsent (messageOf m) (accepts (w .requests) from)); unended = λ n. rw (handled-is, b); once = λ r f. refl }
+            record { after = s .kept ∙ rw (handled-is, b); unsent = λ n. handed-passed (carries (receives from clock)) e; unended = λ n. rw (handled-is, b); once = λ r f. refl }
 
   -- ---- `poll_transmit`
 
@@ -221,11 +271,6 @@ module _ (rows x : ℕ) (w : World) (m : List ℕ) where
     poll-unended e (Cancelled i id) s = rw (ne-eqb (key id) x (poll-none t now l x i id poll-ret.Cancelled e s))
     poll-unended e (WaitUntil clock) s = refl
 
-  poll-unsent : (o : Polled) → handsOutIt x (pollAnswer o) ≡ false
-  poll-unsent (TimedOut i id) = refl
-  poll-unsent (Cancelled i id) = refl
-  poll-unsent (WaitUntil clock) = refl
-
   traced-reports : (now : ℕ) → StateFormed rows w → refusalOf rows w (scans reports now) m ≡ 0 → Traced rows x w (scans reports now) m
   traced-reports now formed e =
       let s = scan-said rows w reports now m e in
@@ -234,7 +279,7 @@ module _ (rows x : ℕ) (w : World) (m : List ℕ) where
       let p = poll-says t now (w .requests) in
       record {
         after = rw (s .answers, s .requests) (poll-after t now (w .requests) (formed .requests .order) o p);
-        unsent = λ n. rw (s .answers) (poll-unsent o);
+        unsent = λ n. handed-passed (scans reports now) e;
         unended = λ n. rw (s .answers) (poll-unended t now (w .requests) (not-found (lookup x (w .requests)) n) o p);
         once = λ r f. refl;
       }
@@ -255,17 +300,10 @@ module _ (rows x : ℕ) (w : World) (m : List ℕ) where
       go (configure rto) = ap requestOf (lookup-set x i r (configured rto r) l e (ap key (same-configured r rto .id) ∙ is))
       go query = ap requestOf e
 
-  wish-unsent : (wish : Wish) (f : Found) → handsOutIt x (onFound f answer.None (λ i r. wishAnswer wish r)) ≡ false
-  wish-unsent wish Nothing = refl
-  wish-unsent silence (At i r) = refl
-  wish-unsent cancel (At i r) = refl
-  wish-unsent (configure rto) (At i r) = refl
-  wish-unsent query (At i r) = refl
-
   traced-names : (id : TransactionId) (wish : Wish) → StateFormed rows w → refusalOf rows w (names id wish) m ≡ 0 → Traced rows x w (names id wish) m
   traced-names id wish formed e = record {
     after = rw (eq-eqb (numberIn (saysOf rows w (names id wish) m .answer)) 0 (answer-number rows w m (names id wish) ∙ e)) (go (eqb (key id) x) refl);
-    unsent = λ n. rw (done rows w (names id wish) m e .answer, answer-names rows w m id wish) (wish-unsent wish (lookup (key id) (w .requests)));
+    unsent = λ n. handed-passed (names id wish) e;
     unended = λ n. refl;
     once = λ r f. refl;
   }
@@ -280,21 +318,11 @@ module _ (rows x : ℕ) (w : World) (m : List ℕ) where
 
   -- ---- the calls that touch no request
 
-  figure-unsent : (f : Figure) → handsOutIt x (figureAnswer w f) ≡ false
-  figure-unsent numbers = refl
-  figure-unsent mean = refl
-  figure-unsent unsettled = refl
-  figure-unsent anew = refl
-
-  meeting-unsent : (a : Address) (y : Meeting) → handsOutIt x (meetingAnswer w a y) ≡ false
-  meeting-unsent a ask = choice-unsent x (known w a)
-  meeting-unsent a validate = refl
-
   traced-passed : (k : Kind) → refusalOf rows w k m ≡ 0 → StateFormed rows w → Traced rows x w k m
   traced-passed (carries (submits to now)) e formed = traced-submits to now formed e
   traced-passed (carries (sends to)) e formed = record {
     after = passed-spares rows x w formed (carries (sends to)) m refl e refl .kept;
-    unsent = λ n. rw (done rows w (carries (sends to)) m e .answer, answer-sends rows w m to);
+    unsent = λ n. handed-passed (carries (sends to)) e;
     unended = λ n. refl;
     once = λ r f. refl;
   }
@@ -304,13 +332,13 @@ module _ (rows x : ℕ) (w : World) (m : List ℕ) where
   traced-passed (names id wish) e formed = traced-names id wish formed e
   traced-passed (meets a y) e formed = record {
     after = passed-spares rows x w formed (meets a y) m refl e refl .kept;
-    unsent = λ n. rw (done rows w (meets a y) m e .answer, answer-meets rows w m a y) (meeting-unsent a y);
+    unsent = λ n. handed-passed (meets a y) e;
     unended = λ n. refl;
     once = λ r f. refl;
   }
   traced-passed (counts f) e formed = record {
     after = passed-spares rows x w formed (counts f) m refl e refl .kept;
-    unsent = λ n. rw (done rows w (counts f) m e .answer, answer-counts rows w m f) (figure-unsent f);
+    unsent = λ n. handed-passed (counts f) e;
     unended = λ n. refl;
     once = λ r f. refl;
   }
@@ -354,6 +382,25 @@ module _ (rows x : ℕ) (w : World) (m : List ℕ) where
             unended = λ z. rw s (refused-does (suc n) k .1);
             once = λ r z. rw s (refused-does (suc n) k .0);
           }
+
+  -- ---- only two calls hand it out
+
+  refused-handed : (n : ℕ) (k : Kind) → handsOutIt x (answer.Refused n) ≡ handedBy x k (answer.Refused n)
+  refused-handed n (carries (submits to now)) = refl
+  refused-handed n (carries (sends to)) = refl
+  refused-handed n (carries (receives from clock)) = refl
+  refused-handed n (scans transmits now) = refl
+  refused-handed n (scans reports now) = refl
+  refused-handed n (names id wish) = refl
+  refused-handed n (meets a y) = refl
+  refused-handed n (counts f) = refl
+
+  pub handed : (k : Kind) → handsOutIt x (saysOf rows w k m .answer) ≡ handedBy x k (saysOf rows w k m .answer)
+  handed k = go (refusalOf rows w k m) refl
+    where
+      go : (n : ℕ) → refusalOf rows w k m ≡ n → handsOutIt x (saysOf rows w k m .answer) ≡ handedBy x k (saysOf rows w k m .answer)
+      go zero e = handed-passed k e
+      go (suc n) e = rw (refused-same rows w k m n e) (refused-handed (suc n) k)
 
 -- ---- a run
 

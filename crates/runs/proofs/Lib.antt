@@ -13,4 +13,5 @@ pub mod Counts
 pub mod Conserved
 pub mod Followed
 pub mod Ends
+pub mod Bytes
 mod Examples

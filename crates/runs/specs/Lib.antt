@@ -10,4 +10,5 @@ pub mod Counts
 pub mod Conserved
 pub mod Ends
 pub mod Followed
+pub mod Bytes
 pub mod Examples

@@ -1,6 +1,7 @@
 -- What is handed out for a request is the message that was submitted; and no two requests share a row.
---     delivered     from a request's acceptance to its end
---     rows-apart    two outstanding requests, in any world that a fresh agent comes to
+--     passes, formed, is-x    a call that accepts the request x
+--     delivered               from a request's acceptance to its end
+--     rows-apart              two outstanding requests, in any world that a fresh agent comes to
 use Prim.Native.Nat.{ℕ, zero, suc}
 use mathlib.Core.Path.{_≡_, refl, sym, ap, _∙_}
 use mathlib.Core.Bool.{Bool, true, false}
@@ -137,10 +138,10 @@ delivers-from rows x to m (t ∷ ts) w h = (
 -- ---- the acceptance
 
 module _ (rows x : ℕ) (w : World) (q : Submission) (taken : submitsIt x (exchange rows w (submission-of q)) ≡ true) where
-  abbrev turned : Said
+  abbrev pub turned : Said
   turned = said rows w (submission-of q)
 
-  passes : refusalOf rows w (carries (submits (q .to) (q .now))) (q .bytes) ≡ 0
+  pub passes : refusalOf rows w (carries (submits (q .to) (q .now))) (q .bytes) ≡ 0
   passes = go (refusalOf rows w (carries (submits (q .to) (q .now))) (q .bytes)) refl
     where
       go : (n : ℕ) → refusalOf rows w (carries (submits (q .to) (q .now))) (q .bytes) ≡ n → n ≡ 0
@@ -148,11 +149,11 @@ module _ (rows x : ℕ) (w : World) (q : Submission) (taken : submitsIt x (excha
       go (suc n) e =
           apart (sym taken ∙ ap (λ (s : Said). handsOutIt x (s .answer)) (refused-same rows w (carries (submits (q .to) (q .now))) (q .bytes) n e))
 
-  formed : StateFormed rows w
+  pub formed : StateFormed rows w
   formed = passed-formed rows w (carries (submits (q .to) (q .now))) (q .bytes) passes
 
   module _ (a : RequestAccepted rows w (q .to) (q .now) (q .bytes) turned) where
-    is-x : key (a .message .«transaction_id») ≡ x
+    pub is-x : key (a .message .«transaction_id») ≡ x
     is-x = eqb-true (key (a .message .«transaction_id»)) x (sym (ap (handsOutIt x) (a .answers)) ∙ taken)
 
     holds : Holds rows x (q .to) (q .bytes) (turned .world)

@@ -1,5 +1,6 @@
 -- The ten counters over a run are counts and sums over its calls and answers.
 --     counters-are     from a fresh agent with statistics on, without a reset
+--     counters-since   from any world with the record zeroed
 --     tallied          one call that isn't refused: its event adds to each counter what the call and its answer say
 use Prim.Native.Nat.{ℕ, zero, suc, _+_}
 use mathlib.Core.Path.{_≡_, refl, sym, ap, _∙_}
@@ -361,39 +362,47 @@ steady v e =
       bytesReceived = j .1;
     }
 
-pub counters-are : (rows : ℕ) (s : Start) (ts : List Turn) → s .stats ≡ true → NoReset ts
-    → Counters (history rows (begins s) ts) (run rows (begins s) ts .stats)
-counters-are rows s ts on kept =
-    let zero-is : begins s .stats ≡ zeroed = ap (λ (b : Bool). counted (freshEvent b) (s .counters)) on ∙ sym (reset (s .counters)) in
+-- The record of a fresh agent with statistics on.
+pub begins-zeroed : (s : Start) → s .stats ≡ true → begins s .stats ≡ zeroed
+begins-zeroed s on = ap (λ (b : Bool). counted (freshEvent b) (s .counters)) on ∙ sym (reset (s .counters))
+
+-- From any world with the record zeroed, so after a reset too.
+pub counters-since : (rows : ℕ) (w : World) (ts : List Turn) → w .agent .stats ≡ true → w .stats ≡ zeroed → NoReset ts
+    → Counters (history rows w ts) (run rows w ts .stats)
+counters-since rows w ts on zero-is kept =
     record {
       requests-sent =
-          from-zero (λ s. s .«requests_sent») (λ m. m .requestsSent) (λ a. a .requestsSent) (λ v s. counters-moved v s .requestsSent) (λ v e. steady v e .requestsSent) (λ v. refl) rows ts (begins s)
+          from-zero (λ s. s .«requests_sent») (λ m. m .requestsSent) (λ a. a .requestsSent) (λ v s. counters-moved v s .requestsSent) (λ v e. steady v e .requestsSent) (λ v. refl) rows ts w
           on kept (ap (λ (x : StunAgentStats). x .«requests_sent») zero-is);
       requests-received =
-          from-zero (λ s. s .«requests_received») (λ m. m .requestsReceived) (λ a. a .requestsReceived) (λ v s. counters-moved v s .requestsReceived) (λ v e. steady v e .requestsReceived) (λ v. refl) rows ts (begins s)
+          from-zero (λ s. s .«requests_received») (λ m. m .requestsReceived) (λ a. a .requestsReceived) (λ v s. counters-moved v s .requestsReceived) (λ v e. steady v e .requestsReceived) (λ v. refl) rows ts w
           on kept (ap (λ (x : StunAgentStats). x .«requests_received») zero-is);
       responses-sent =
-          from-zero (λ s. s .«responses_sent») (λ m. m .responsesSent) (λ a. a .responsesSent) (λ v s. counters-moved v s .responsesSent) (λ v e. steady v e .responsesSent) (λ v. refl) rows ts (begins s)
+          from-zero (λ s. s .«responses_sent») (λ m. m .responsesSent) (λ a. a .responsesSent) (λ v s. counters-moved v s .responsesSent) (λ v e. steady v e .responsesSent) (λ v. refl) rows ts w
           on kept (ap (λ (x : StunAgentStats). x .«responses_sent») zero-is);
       responses-received =
-          from-zero (λ s. s .«responses_received») (λ m. m .responsesReceived) (λ a. a .responsesReceived) (λ v s. counters-moved v s .responsesReceived) (λ v e. steady v e .responsesReceived) (λ v. refl) rows ts (begins s)
+          from-zero (λ s. s .«responses_received») (λ m. m .responsesReceived) (λ a. a .responsesReceived) (λ v s. counters-moved v s .responsesReceived) (λ v e. steady v e .responsesReceived) (λ v. refl) rows ts w
           on kept (ap (λ (x : StunAgentStats). x .«responses_received») zero-is);
       indications-sent =
-          from-zero (λ s. s .«indications_sent») (λ m. m .indicationsSent) (λ a. a .indicationsSent) (λ v s. counters-moved v s .indicationsSent) (λ v e. steady v e .indicationsSent) (λ v. refl) rows ts (begins s)
+          from-zero (λ s. s .«indications_sent») (λ m. m .indicationsSent) (λ a. a .indicationsSent) (λ v s. counters-moved v s .indicationsSent) (λ v e. steady v e .indicationsSent) (λ v. refl) rows ts w
           on kept (ap (λ (x : StunAgentStats). x .«indications_sent») zero-is);
       indications-received =
-          from-zero (λ s. s .«indications_received») (λ m. m .indicationsReceived) (λ a. a .indicationsReceived) (λ v s. counters-moved v s .indicationsReceived) (λ v e. steady v e .indicationsReceived) (λ v. refl) rows ts (begins s)
+          from-zero (λ s. s .«indications_received») (λ m. m .indicationsReceived) (λ a. a .indicationsReceived) (λ v s. counters-moved v s .indicationsReceived) (λ v e. steady v e .indicationsReceived) (λ v. refl) rows ts w
           on kept (ap (λ (x : StunAgentStats). x .«indications_received») zero-is);
       transactions-timed-out =
-          from-zero (λ s. s .«transactions_timed_out») (λ m. m .timedOut) (λ a. a .timedOut) (λ v s. counters-moved v s .timedOut) (λ v e. steady v e .timedOut) (λ v. refl) rows ts (begins s)
+          from-zero (λ s. s .«transactions_timed_out») (λ m. m .timedOut) (λ a. a .timedOut) (λ v s. counters-moved v s .timedOut) (λ v e. steady v e .timedOut) (λ v. refl) rows ts w
           on kept (ap (λ (x : StunAgentStats). x .«transactions_timed_out») zero-is);
       transactions-cancelled =
-          from-zero (λ s. s .«transactions_cancelled») (λ m. m .cancelled) (λ a. a .cancelled) (λ v s. counters-moved v s .cancelled) (λ v e. steady v e .cancelled) (λ v. refl) rows ts (begins s)
+          from-zero (λ s. s .«transactions_cancelled») (λ m. m .cancelled) (λ a. a .cancelled) (λ v s. counters-moved v s .cancelled) (λ v e. steady v e .cancelled) (λ v. refl) rows ts w
           on kept (ap (λ (x : StunAgentStats). x .«transactions_cancelled») zero-is);
       bytes-sent =
-          from-zero (λ s. s .«bytes_sent») (λ m. m .bytesSent) (λ a. a .bytesSent) (λ v s. counters-moved v s .bytesSent) (λ v e. steady v e .bytesSent) (λ v. refl) rows ts (begins s)
+          from-zero (λ s. s .«bytes_sent») (λ m. m .bytesSent) (λ a. a .bytesSent) (λ v s. counters-moved v s .bytesSent) (λ v e. steady v e .bytesSent) (λ v. refl) rows ts w
           on kept (ap (λ (x : StunAgentStats). x .«bytes_sent») zero-is);
       bytes-received =
-          from-zero (λ s. s .«bytes_received») (λ m. m .bytesReceived) (λ a. a .bytesReceived) (λ v s. counters-moved v s .bytesReceived) (λ v e. steady v e .bytesReceived) (λ v. refl) rows ts (begins s)
+          from-zero (λ s. s .«bytes_received») (λ m. m .bytesReceived) (λ a. a .bytesReceived) (λ v s. counters-moved v s .bytesReceived) (λ v e. steady v e .bytesReceived) (λ v. refl) rows ts w
           on kept (ap (λ (x : StunAgentStats). x .«bytes_received») zero-is);
     }
+
+pub counters-are : (rows : ℕ) (s : Start) (ts : List Turn) → s .stats ≡ true → NoReset ts
+    → Counters (history rows (begins s) ts) (run rows (begins s) ts .stats)
+counters-are rows s ts on kept = counters-since rows (begins s) ts on (begins-zeroed s on) kept

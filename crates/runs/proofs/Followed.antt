@@ -404,18 +404,21 @@ module _ (rows x : ℕ) (w : World) (m : List ℕ) where
 
 -- ---- a run
 
+pub followed-at : (rows x : ℕ) (tr : Transport) (rto : RequestRto) (w : World) → w .agent .transport ≡ tr → w .agent .rto ≡ rto → (c : Turn)
+    → requestOf (lookup x (said rows w c .world .requests)) ≡ followed tr rto x (exchange rows w c) (requestOf (lookup x (w .requests)))
+followed-at rows x tr rto w t s c =
+    let e = exchange rows w c in
+    let o = requestOf (lookup x (w .requests)) in
+    traced rows x w (c .bytes) (kindIn c) .after ∙ ap (λ (u : Transport). followed u (w .agent .rto) x e o) t ∙ ap (λ (u : RequestRto). followed tr u x e o) s
+
 pub follows : (rows x : ℕ) (tr : Transport) (rto : RequestRto) (ts : List Turn) (w : World) → w .agent .transport ≡ tr → w .agent .rto ≡ rto
     → requestOf (lookup x (run rows w ts .requests)) ≡ followedThrough tr rto x (requestOf (lookup x (w .requests))) (history rows w ts)
 unfolding run history
 follows rows x tr rto [] w t s = refl
 follows rows x tr rto (c ∷ ts) w t s =
     let a = says-agent rows w (kindIn c) (c .bytes) in
-    let e = exchange rows w c in
-    let o = requestOf (lookup x (w .requests)) in
-    let one : requestOf (lookup x (said rows w c .world .requests)) ≡ followed tr rto x e o = traced rows x w (c .bytes) (kindIn c) .after
-    ∙ ap (λ (u : Transport). followed u (w .agent .rto) x e o) t ∙ ap (λ (u : RequestRto). followed tr u x e o) s in
     follows rows x tr rto ts (said rows w c .world) (a .transport ∙ t) (a .rto ∙ s)
-    ∙ ap (λ (o : Option StunRequestState). followedThrough tr rto x o (history rows (said rows w c .world) ts)) one
+    ∙ ap (λ (o : Option StunRequestState). followedThrough tr rto x o (history rows (said rows w c .world) ts)) (followed-at rows x tr rto w t s c)
 
 pub follows-fresh : (rows x : ℕ) (s : Start) (ts : List Turn)
     → requestOf (lookup x (run rows (begins s) ts .requests)) ≡ followedThrough (s .transport) (s .rto) x none (history rows (begins s) ts)

@@ -14,4 +14,5 @@ pub mod Conserved
 pub mod Followed
 pub mod Ends
 pub mod Bytes
+pub mod Samples
 mod Examples

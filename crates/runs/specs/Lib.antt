@@ -10,5 +10,6 @@ pub mod Counts
 pub mod Conserved
 pub mod Ends
 pub mod Followed
+pub mod Samples
 pub mod Bytes
 pub mod Examples

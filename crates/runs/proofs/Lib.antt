@@ -16,3 +16,4 @@ pub mod Ends
 pub mod Bytes
 pub mod Samples
 mod Examples
+mod Eventful

@@ -13,3 +13,4 @@ pub mod Followed
 pub mod Samples
 pub mod Bytes
 pub mod Examples
+pub mod Eventful

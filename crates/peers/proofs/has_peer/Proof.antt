@@ -4,7 +4,7 @@
 --     Upto, Nearer     the loop's variant: i with i ≤ the end, ordered by what is left
 --     At           the loop's invariant at i: `found` is what is known of the first i peers
 -- Assumes nothing.
-use mathlib.Core.Path.{_≡_, refl, sym, ap, _∙_}
+use mathlib.Core.Path.{_≡_, refl, ap, _∙_}
 use Prim.Native.Nat.{ℕ, _+_, _-_, _≤_, _<_, _^_, min, zero-le}
 use native.Mathlib.Nat.{le-antisymm, lt-of-le-of-lt, lt-of-lt-of-le}
 use native.Mathlib.Numerals.{add-one-le, add-one-dec}
@@ -36,7 +36,7 @@ use denote.RattleType.{owns}
 use denote.Shadow.{pureI}
 use denote.Laws.{Is, shows as shows-is}
 use denote.Memory.{pointee, shares}
-use denote.Plain.{Boolean, bool-makes, bool-lawful, bool-vals, uint-makes, uint-lawful, uint-vals, uint-tells}
+use denote.Plain.{Boolean, bool-makes, bool-lawful, uint-makes, uint-lawful, uint-vals, uint-tells}
 use denote.Builtin.{usize}
 use denote.Ref.{RefT}
 use denote.Slice.{sliceTy, sliceVal, ShrSlice, Room, heres, codedHoleys, at-slice, slice-vals, shr-slice-tells}

@@ -1,0 +1,209 @@
+-- What follows of `Performed`, which `call`, `door` and `step` promise, and of `Started`, which `start` promises.
+--     refused-in, short-in, passed-in    which number a call is refused by, and when none
+--     numbered                           the answer tells that number
+--     refused-same                       a refused call changes nothing: agent, table, store, peers and statistics
+--     one-outcome, one-start             at most one outcome meets the promise
+--     stays-formed                       a world that is well formed stays so
+--     peers-kept                         the peers change at most at place *count*
+--     off-untouched                      while statistics are off, the record isn't touched
+--     start-zeroed, start-off, start-refused    the record after a start
+use Prim.Native.Nat.{ℕ, suc, _≤_, _<_}
+use mathlib.Core.Path.{_≡_, refl, sym, ap, subst, _∙_}
+use mathlib.Core.Bool.{Bool, true, false}
+use mathlib.Core.Logic.{_↔_}
+use mathlib.Core.List.{List}
+use native.Mathlib.Omega.{arith}
+use lib.Dec.{leb}
+use lib.ListN.{length, getD}
+use borrow.Author.Tests.{le-leb, lt-leb, leb-true, leb-false}
+use Rattle.address.specs.declared.Address.{Address}
+use Rattle.waits.specs.Waits.{withinLimits}
+use Rattle.stats.specs.Count.{counted, zeroed}
+use Rattle.stats.specs.declared.StunAgentStats.{StunAgentStats}
+use Rattle.stats.proofs.Fields.{nothing, reset}
+use Rattle.records.specs.Coding.{size}
+use Rattle.model.specs.World.{World, StateFormed}
+use Rattle.model.specs.Calls.{Kind, kindOf}
+use Rattle.model.specs.Refusals.{Refusal, STATE, SETTINGS, numberOf, holds, refusalOf}
+use Rattle.model.specs.Fresh.{buildOf}
+use Rattle.model.specs.Says.{Said, numberIn, saysOf}
+use Rattle.model.specs.declared.StunAgent.{StunAgent}
+use Rattle.model.specs.declared.StunAgentBuilder.{StunAgentBuilder}
+use Rattle.model.specs.declared.Built.{Built}
+use Rattle.model.specs.declared.Built.the-variants.{Refused}
+use Rattle.model.specs.declared.Call.{Call}
+use Rattle.model.specs.declared.Answer.the-variants as answer
+use Rattle.model.proofs.Refused as model
+use Rattle.model.proofs.Answers.{answer-number}
+use Rattle.model.proofs.Kept.{says-formed}
+use Rattle.model.proofs.Peers.{says-peers}
+use Rattle.model.proofs.Statistics as statistics
+use Rattle.agent.specs.Ready.{worldOf}
+use Rattle.agent.specs.Said.{refusalIn, saidIn, wordsIn}
+use Rattle.entry.specs.Entry.{toldOf, Performed, eventIn, Started}
+use Rattle.entry.specs.declared.Answered.{Answered}
+
+-- ---- the model's theorems, of a table that may be too short
+
+module _ (t : List ℕ) (w : World) (k : Kind) (m : List ℕ) where
+  whole-in : size ≤ length t → refusalIn t w k m ≡ refusalOf 32 w k m
+  unfolding refusalIn
+  whole-in h = rw (le-leb size (length t) h)
+
+  -- "Given exactly when"; "where several apply, the lowest number is answered".
+  pub refused-in : size ≤ length t → (r : Refusal)
+      → (refusalIn t w k m ≡ numberOf r) ↔ ((holds 32 w k m r ≡ true) × ((q : Refusal) → numberOf q < numberOf r → holds 32 w k m q ≡ false))
+  refused-in h r = rw (whole-in h) (model.refused-exactly 32 w k m r)
+
+  pub short-in : length t < size → refusalIn t w k m ≡ numberOf STATE
+  unfolding refusalIn
+  short-in h = rw (lt-leb size (length t) h)
+
+  pub passed-in : (refusalIn t w k m ≡ 0) ↔ ((size ≤ length t) × ((r : Refusal) → holds 32 w k m r ≡ false))
+  passed-in = (to (leb size (length t)) refl, λ p. whole-in (p .0) ∙ model.passed-exactly 32 w k m .1 (p .1))
+    where
+      to : (b : Bool) → leb size (length t) ≡ b → refusalIn t w k m ≡ 0 → (size ≤ length t) × ((r : Refusal) → holds 32 w k m r ≡ false)
+      to true e z =
+          let h = leb-true size (length t) e in
+          (h, model.passed-exactly 32 w k m .0 (sym (whole-in h) ∙ z))
+      to false e z = absurd (omega (arith, short-in (leb-false size (length t) e), z))
+
+  said-whole : leb size (length t) ≡ true → saidIn t w k m ≡ saysOf 32 w k m
+  unfolding saidIn refusalIn saysOf
+  said-whole e = rw e
+
+  said-short : leb size (length t) ≡ false → saidIn t w k m ≡ record { answer = answer.Refused 1; world = w }
+  unfolding saidIn refusalIn
+  said-short e = rw e
+
+  -- What holds of the model's outcome, and of a refusal that changes nothing, holds of the outcome.
+  by-model : (Q : Said → Type 0) → Q (saysOf 32 w k m) → Q (record { answer = answer.Refused 1; world = w }) → Q (saidIn t w k m)
+  by-model Q h g = go (leb size (length t)) refl
+    where
+      go : (b : Bool) → leb size (length t) ≡ b → Q (saidIn t w k m)
+      go true e = subst Q (sym (said-whole e)) h
+      go false e = subst Q (sym (said-short e)) g
+
+  said-number : numberIn (saidIn t w k m .answer) ≡ refusalIn t w k m
+  said-number = go (leb size (length t)) refl
+    where
+      go : (b : Bool) → leb size (length t) ≡ b → numberIn (saidIn t w k m .answer) ≡ refusalIn t w k m
+      go true e =
+          ap (λ (s : Said). numberIn (s .answer)) (said-whole e) ∙ answer-number 32 w m k ∙ sym (whole-in (leb-true size (length t) e))
+      go false e = ap (λ (s : Said). numberIn (s .answer)) (said-short e) ∙ sym (short-in (leb-false size (length t) e))
+
+  said-refused : (n : ℕ) → refusalIn t w k m ≡ suc n → saidIn t w k m ≡ record { answer = answer.Refused (suc n); world = w }
+  unfolding saidIn
+  said-refused n e = rw e
+
+  words-refused : (n : ℕ) → refusalIn t w k m ≡ suc n → wordsIn t w k m ≡ t
+  unfolding wordsIn
+  words-refused n e = rw e
+
+-- ---- a call
+
+-- All as it was, but for the answer: t the words of the table, b the bytes of the store, l the peers.
+pub record Unchanged
+    (n : ℕ) (a : StunAgent) (t b : List ℕ) (l : List Address) (st : StunAgentStats)
+    (t′ b′ : List ℕ) (l′ : List Address) (st′ : StunAgentStats) (r : Answered) : Type 0 where
+  pub answer : r .answer ≡ answer.Refused n
+  pub agent : r .agent ≡ a
+  pub table : t′ ≡ t
+  pub store : b′ ≡ b
+  pub peers : l′ ≡ l
+  pub stats : st′ ≡ st
+
+-- Two outcomes alike: the answer, the agent, every lent word, byte, peer and number.
+pub record Alike (t t′ b b′ : List ℕ) (l l′ : List Address) (st st′ : StunAgentStats) (r r′ : Answered) : Type 0 where
+  pub answer : r .answer ≡ r′ .answer
+  pub agent : r .agent ≡ r′ .agent
+  pub table : t ≡ t′
+  pub store : b ≡ b′
+  pub peers : l ≡ l′
+  pub stats : st ≡ st′
+
+module _
+    (a : StunAgent) (c : Call) (m t store : List ℕ) (peers : List Address) (st : StunAgentStats)
+    (t′ store′ : List ℕ) (peers′ : List Address) (st′ : StunAgentStats) (r : Answered)
+    (p : Performed a c m t store peers st t′ store′ peers′ st′ r) where
+  abbrev w : World
+  w = worldOf a t store peers st
+
+  -- The promise, of any property of what the host has.
+  of-said : (Q : Said → Type 0) → Q (saidIn t w (kindOf c) m) → Q (toldOf r t′ store′ peers′ st′)
+  of-said Q h = subst Q (sym (p .says)) h
+
+  pub numbered : numberIn (r .answer) ≡ refusalIn t w (kindOf c) m
+  numbered = of-said (λ s. numberIn (s .answer) ≡ refusalIn t w (kindOf c) m) (said-number t w (kindOf c) m)
+
+  -- "A refused call answers its number and leaves state, statistics, store and peers unchanged, the clock mark included."
+  pub refused-same : (n : ℕ) → refusalIn t w (kindOf c) m ≡ suc n → Unchanged (suc n) a t store peers st t′ store′ peers′ st′ r
+  refused-same n e =
+      let z = p .says ∙ said-refused t w (kindOf c) m n e in
+      record {
+        answer = ap (λ (s : Said). s .answer) z;
+        agent = ap (λ (s : Said). s .world .agent) z;
+        table = p .words ∙ words-refused t w (kindOf c) m n e;
+        store = ap (λ (s : Said). s .world .store) z;
+        peers = ap (λ (s : Said). s .world .peers) z;
+        stats = ap (λ (s : Said). s .world .stats) z;
+      }
+
+  pub one-outcome : (t″ store″ : List ℕ) (peers″ : List Address) (st″ : StunAgentStats) (r″ : Answered)
+      → Performed a c m t store peers st t″ store″ peers″ st″ r″ → Alike t′ t″ store′ store″ peers′ peers″ st′ st″ r r″
+  one-outcome t″ store″ peers″ st″ r″ q =
+      let z : toldOf r t′ store′ peers′ st′ ≡ toldOf r″ t″ store″ peers″ st″ = p .says ∙ sym (q .says) in
+      record {
+        answer = ap (λ (s : Said). s .answer) z;
+        agent = ap (λ (s : Said). s .world .agent) z;
+        table = p .words ∙ sym (q .words);
+        store = ap (λ (s : Said). s .world .store) z;
+        peers = ap (λ (s : Said). s .world .peers) z;
+        stats = ap (λ (s : Said). s .world .stats) z;
+      }
+
+  pub stays-formed : StateFormed 32 w → StateFormed 32 (worldOf (r .agent) t′ store′ peers′ st′)
+  stays-formed f =
+      of-said (λ s. StateFormed 32 (s .world))
+      (by-model t w (kindOf c) m (λ s. StateFormed 32 (s .world)) (says-formed 32 w (kindOf c) m f) f)
+
+  pub peers-kept : (length peers′ ≡ length peers) × ((i : ℕ) (d : Address) → (i ≡ a .peers → ⊥) → getD peers′ i d ≡ getD peers i d)
+  peers-kept = of-said Kept (by-model t w (kindOf c) m Kept (says-peers 32 w (kindOf c) m) (refl, λ i d n. refl))
+    where
+      Kept : Said → Type 0
+      Kept s =
+          (length (s .world .peers) ≡ length peers)
+          × ((i : ℕ) (d : Address) → (i ≡ a .peers → ⊥) → getD (s .world .peers) i d ≡ getD peers i d)
+
+  -- "None while off."
+  pub off-untouched : a .stats ≡ false → st′ ≡ st
+  off-untouched off =
+      of-said (λ s. s .world .stats ≡ st)
+      (by-model t w (kindOf c) m (λ s. s .world .stats ≡ st) (statistics.off-untouched 32 w (kindOf c) m off) refl)
+
+-- ---- a start
+
+module _ (b : StunAgentBuilder) (st st′ : StunAgentStats) (r : Built) (p : Started b st st′ r) where
+  pub one-start : (st″ : StunAgentStats) (r″ : Built) → Started b st st″ r″ → (r ≡ r″) × (st′ ≡ st″)
+  one-start st″ r″ q =
+      let z : r ≡ r″ = p .says ∙ sym (q .says) in
+      (z, p .records ∙ ap (λ (x : Built). counted (eventIn x) st) z ∙ sym (q .records))
+
+  -- "The record zeroed if statistics are on."
+  pub start-zeroed : withinLimits (b .rto) ≡ true → b .stats ≡ true → st′ ≡ zeroed
+  unfolding buildOf
+  start-zeroed within on = p .records ∙ ap (λ (x : Built). counted (eventIn x) st) (p .says) ∙ rw (within, on) (sym (reset st))
+
+  pub start-off : b .stats ≡ false → st′ ≡ st
+  unfolding buildOf
+  start-off off = p .records ∙ ap (λ (x : Built). counted (eventIn x) st) (p .says) ∙ go (withinLimits (b .rto)) refl
+    where
+      go : (t : Bool) → withinLimits (b .rto) ≡ t → counted (eventIn (buildOf b)) st ≡ st
+      go true within = rw (within, off) (sym (nothing st))
+      go false within = rw within (sym (nothing st))
+
+  pub start-refused : withinLimits (b .rto) ≡ false → (r ≡ Refused (numberOf SETTINGS)) × (st′ ≡ st)
+  unfolding buildOf
+  start-refused past =
+      let z : buildOf b ≡ Refused (numberOf SETTINGS) = rw past in
+      (p .says ∙ z, p .records ∙ ap (λ (x : Built). counted (eventIn x) st) (p .says ∙ z) ∙ sym (nothing st))

@@ -22,10 +22,19 @@ def cargo_build(*arguments, folder=HOST, **environment):
         sys.exit(f"{' '.join(command)} failed")
 
 
-def host_program(name):
+def host_program(name, *arguments):
     """The path of one of the host's programs, built afresh where something changed."""
-    cargo_build("--release", "--package", name)
+    cargo_build("--release", "--package", name, *arguments)
     return HOST / "target" / "release" / name
+
+
+def port_library():
+    """Proves and builds the port's static library, where something changed."""
+    if not shutil.which("rt"):
+        sys.exit("the Rattle kit's rt isn't here: the port can't be built")
+    done = subprocess.run(["rt", "staticlib", "replay"], cwd=ROOT, stdout=subprocess.PIPE, stderr=subprocess.STDOUT, text=True)
+    if done.returncode:
+        sys.exit(f"{done.stdout[-2000:]}\nrt staticlib replay failed")
 
 
 def run_program(words, trace):

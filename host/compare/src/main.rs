@@ -1,8 +1,8 @@
 //! Compares a program with the oracle over a range of seeds; `tools/compare` builds it and shows what it finds.
 //!
-//! compare --out FOLDER [--families inside,outside,short] [--seeds FROM..TO] [--join N] [--complete] [-- PROGRAM WORDS..]
+//! compare --out FOLDER [--families inside,outside,short] [--seeds FROM..TO] [--join N] [--complete] [--port | -- PROGRAM WORDS..]
 
-use compare::{Program, Run};
+use compare::{Program, Replay, Run};
 use generate::{sequences_up_to, Family};
 use std::ops::Range;
 use std::path::PathBuf;
@@ -53,6 +53,7 @@ fn coverage(run: &Run) -> String {
 fn options(arguments: impl Iterator<Item = String>) -> Result<Options, String> {
     let (mut families, mut seeds, mut join, mut complete) = (Family::ALL.to_vec(), 0..2000, 1, false);
     let mut out = None;
+    let mut linked = None;
     let mut words = Vec::new();
     let mut arguments = arguments;
     while let Some(argument) = arguments.next() {
@@ -63,14 +64,28 @@ fn options(arguments: impl Iterator<Item = String>) -> Result<Options, String> {
             "--seeds" => seeds = range(&value()?)?,
             "--join" => join = value()?.parse().map_err(|_| "--join wants a number")?,
             "--complete" => complete = true,
+            "--port" => linked = Some(port()?),
             "--" => words = arguments.by_ref().collect(),
             other => return Err(format!("unknown option {other}")),
         }
     }
     let out = out.ok_or("--out is missing")?;
     std::fs::create_dir_all(&out).map_err(|error| format!("{}: {error}", out.display()))?;
-    let program = (!words.is_empty()).then(|| Program::Command { words, scratch: out.join("playing") });
+    let program = match (linked, words.is_empty()) {
+        (Some(_), false) => return Err("--port and a program are two things to compare".to_owned()),
+        (Some(replay), true) => Some(Program::Linked(replay)),
+        (None, false) => Some(Program::Command { words, scratch: out.join("playing") }),
+        (None, true) => None,
+    };
     Ok(Options { run: Run { families, seeds, program, join }, out, complete })
+}
+
+/// The port, where it is linked.
+fn port() -> Result<Replay, String> {
+    #[cfg(feature = "port")]
+    return Ok(port::replay);
+    #[cfg(not(feature = "port"))]
+    Err("the port isn't linked: build with --features port".to_owned())
 }
 
 fn family(name: &str) -> Result<Family, String> {

@@ -7,8 +7,8 @@ use std::thread::sleep;
 use std::time::{Duration, Instant};
 
 /// The call that a static library offers a Rust test host: trace bytes in, lines into a lent buffer,
-/// their byte count back. A library that is linked one day goes into `Program::Linked`.
-pub type Replay = unsafe extern "C" fn(trace: *const u8, trace_len: usize, out: *mut u8, out_len: usize) -> usize;
+/// their byte count back.
+pub type Replay = fn(trace: &[u8], out: &mut [u8]) -> usize;
 
 /// How long a program may take over what it is given at one start.
 pub const TIME_LIMIT: Duration = Duration::from_secs(20);
@@ -16,8 +16,8 @@ pub const TIME_LIMIT: Duration = Duration::from_secs(20);
 /// How often it is looked after.
 const LOOK: Duration = Duration::from_micros(100);
 
-/// No line is longer: a number, `stats` and 14 numbers of 20 digits.
-const LONGEST_LINE: usize = 320;
+/// No line is longer: a number of 20 digits, `stats` and 14 such numbers.
+const LONGEST_LINE: usize = 321;
 
 /// No record is shorter than its frame.
 const SHORTEST_RECORD: usize = 5;
@@ -76,8 +76,7 @@ fn ended(mut child: Child) -> std::io::Result<Option<ExitStatus>> {
 
 fn linked_lines(replay: Replay, trace: &[u8]) -> Result<String, String> {
     let mut out = vec![0xAA; (trace.len() / SHORTEST_RECORD + 1) * LONGEST_LINE];
-    // SAFETY: both pointers are to live buffers of the lengths given, and the two don't overlap.
-    let length = unsafe { replay(trace.as_ptr(), trace.len(), out.as_mut_ptr(), out.len()) };
+    let length = replay(trace, &mut out);
     if out.len() < length || out[length..].iter().any(|&byte| byte != 0) {
         return Err(format!("{length} bytes of {}, or no zeros behind them", out.len()));
     }
@@ -89,17 +88,9 @@ fn linked_lines(replay: Replay, trace: &[u8]) -> Result<String, String> {
 mod tests {
     use super::*;
 
-    /// The second reading behind the library's call.
-    unsafe extern "C" fn reading_replay(trace: *const u8, trace_len: usize, out: *mut u8, out_len: usize) -> usize {
-        // SAFETY: `linked_lines` hands over live buffers with their lengths.
-        let (trace, out) =
-            unsafe { (std::slice::from_raw_parts(trace, trace_len), std::slice::from_raw_parts_mut(out, out_len)) };
-        reading::replay_into(trace, out)
-    }
-
     #[test]
     fn a_linked_replay_says_what_the_second_reading_says() {
-        let program = Program::Linked(reading_replay);
+        let program = Program::Linked(reading::replay_into);
         for seed in 0..300 {
             let trace = generate::Family::Outside.trace(seed);
             assert_eq!(program.lines(&trace).unwrap(), records::lines(&reading::replay(&trace)));

@@ -1,0 +1,71 @@
+-- `purlanchor::some` keeps its bytes within the buffer.
+use Prim.Native.Nat.{ℕ, _≤_}
+use mathlib.Core.Path.{sym, subst}
+use lib.Seq.{length-take-le}
+use borrow.Author.Needs.{needs}
+use Rattle.purlanchor.proofs.some.Statement.{statement}
+use Rattle.purlanchor.proofs.some.Tie as tie
+
+fill-requires : tie.Need-fill-requires
+fill-requires c κs = search needs
+
+slice-reshare-prefix-turns : tie.Need-slice-reshare-prefix-turns
+slice-reshare-prefix-turns c = search needs
+
+slice-aggregate-turns : tie.Need-slice-aggregate-turns
+slice-aggregate-turns c = sym (length-take-le _ _ (c .before .before .before .fill .ensures .1))
+
+turns-requires : tie.Need-turns-requires
+turns-requires c κs = search needs
+
+slice-reshare-prefix-write-all : tie.Need-slice-reshare-prefix-write-all
+slice-reshare-prefix-write-all c = search needs
+
+slice-aggregate-write-all : tie.Need-slice-aggregate-write-all
+slice-aggregate-write-all c = sym (length-take-le _ _ (c .before .before .before .before .before .before .before .turns .ensures .1))
+
+write-all-requires : tie.Need-write-all-requires
+write-all-requires c κs = search needs
+
+slide-requires : tie.Need-slide-requires
+slide-requires c κs = (
+  subst (λ (n : ℕ). c .before .before .before .before .before .before .before .before .before .turns .result .at ≤ n) (length-take-le _ _ (c .before .before .before .before .before .before .before .before .before .before .before .before .before .before .before .before .fill .ensures .1)) (c .before .before .before .before .before .before .before .before .before .turns .ensures .0),
+  c .before .before .before .before .before .before .before .before .before .before .before .before .before .before .before .before .fill .ensures .1,
+)
+
+goes-on-requires : tie.Need-goes-on-requires
+goes-on-requires c κs = search needs
+
+same-length : tie.Need-same-length
+same-length c = search needs
+
+same-length-2 : tie.Need-same-length-2
+same-length-2 c = search needs
+
+same-length-3 : tie.Need-same-length-3
+same-length-3 c = search needs
+
+same-length-4 : tie.Need-same-length-4
+same-length-4 c = search needs
+
+returns : tie.Need-returns
+returns c = search needs
+
+pub some-spec : {M : Type 1} → statement M
+some-spec =
+    tie.close
+    (tie.spec
+    fill-requires
+    slice-reshare-prefix-turns
+    slice-aggregate-turns
+    turns-requires
+    slice-reshare-prefix-write-all
+    slice-aggregate-write-all
+    write-all-requires
+    slide-requires
+    goes-on-requires
+    same-length
+    same-length-2
+    same-length-3
+    same-length-4
+    returns)

@@ -1,0 +1,5 @@
+pub mod Steps
+mod Turns
+mod Fits
+mod Outcome
+mod Example

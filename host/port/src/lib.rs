@@ -1,0 +1,28 @@
+//! The port, linked: document 01's replay as a safe function.
+
+mod linked {
+    extern "C" {
+        /// `replay` of crates/replay, whose slices come as a pointer and a length each.
+        pub fn replay(trace: *const u8, trace_len: usize, out: *mut u8, out_len: usize) -> usize;
+    }
+}
+
+/// No line is longer: `LONGEST_LINE` of crates/line.
+const LONGEST_LINE: usize = 321;
+
+/// No record is shorter than its frame.
+const SHORTEST_RECORD: usize = 5;
+
+/// Plays the trace: the lines that fit whole into `out`, zeros behind them, and how many bytes the lines are.
+pub fn replay(trace: &[u8], out: &mut [u8]) -> usize {
+    // SAFETY: both pointers are to live slices of the lengths given, and since one is lent for writing the two don't overlap.
+    unsafe { linked::replay(trace.as_ptr(), trace.len(), out.as_mut_ptr(), out.len()) }
+}
+
+/// All lines of a trace.
+pub fn lines(trace: &[u8]) -> Vec<u8> {
+    let mut out = vec![0; (trace.len() / SHORTEST_RECORD + 1) * LONGEST_LINE];
+    let length = replay(trace, &mut out);
+    out.truncate(length);
+    out
+}

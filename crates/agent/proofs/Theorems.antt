@@ -18,7 +18,8 @@ use Rattle.address.proofs.Same.{same-refl}
 use Rattle.stats.specs.Count.{zeroed}
 use Rattle.stats.specs.declared.StunAgentStats.{StunAgentStats}
 use Rattle.records.specs.Coding.{size}
-use Rattle.model.specs.World.{World, listed}
+use Rattle.peers.specs.Peers.{listed}
+use Rattle.model.specs.World.{World}
 use Rattle.model.specs.Calls.{Kind}
 use Rattle.model.specs.Refusals.{refusalOf}
 use Rattle.model.specs.Says.{Said, numberIn}

@@ -30,6 +30,7 @@ use Rattle.model.specs.Refusals.{isSubmitted, refusalOf}
 use Rattle.model.specs.Says.{numberIn, saysOf}
 use Rattle.model.specs.Runs.{Turn}
 use Rattle.model.specs.declared.Answer.{Answer}
+use Rattle.model.proofs.Classes.{passed-formed}
 use Rattle.model.proofs.Refused.{refused-same}
 use Rattle.model.proofs.Store.{RequestAccepted, request-accepted}
 use Rattle.runs.specs.Run.{kindIn, said, run, handsOutIt}
@@ -38,8 +39,7 @@ use Rattle.runs.specs.Counts.{Exchange, exchange, history, isYes, one}
 use Rattle.runs.specs.Ends.{End, by-response, submitsBy, submitsIt, respondsTo, reportEnd, endBy, endOf, Lives, as-it-is, absent, accepted, stays, ends, inTable, SilentUntil, Fate, in-the-table, ended, acceptances, endings}
 use Rattle.runs.specs.Followed.{reaches, wishedOf, followedBy}
 use Rattle.runs.proofs.Spared.{passed-spares}
-use Rattle.runs.proofs.Counts.{passed-formed}
-use Rattle.runs.proofs.Followed.{Traced, traced, refused-does}
+use Rattle.runs.proofs.Followed.{stands-at, Traced, traced, refused-does}
 
 -- ---- one call, by the definitions alone
 
@@ -120,7 +120,7 @@ module _ (rows x : ℕ) (w : World) (m : List ℕ) where
           → (b : Bool) → eqb (key (a .message .«transaction_id»)) x ≡ b → Moves rows x w (carries (submits to now)) m
       go a f true b =
           let z : key (a .message .«transaction_id») ≡ x = eqb-true (key (a .message .«transaction_id»)) x b in
-          let here : requestOf (lookup x (saysOf rows w (carries (submits to now)) m .world .requests)) ≡ some (a .request) = ap requestOf (rw z at (a .stands)) in
+          let here = ap requestOf (stands-at rows x w to now m (saysOf rows w (carries (submits to now)) m) a z) in
           record {
             begun = λ h. (a .request, here);
             away = λ n h. apart (rw (a .answers, b) at h);
@@ -201,7 +201,8 @@ lives-from rows x (t ∷ ts) w = go (lookup x (w .requests)) refl (lives-from ro
     d : Traced rows x w (kindIn t) (t .bytes)
     d = traced rows x w (t .bytes) (kindIn t)
 
-    rest : (b : Bool) → inTable x v ≡ b → Lives x (inTable x v) (history rows v ts) (inTable x (run rows v ts)) → Lives x b (history rows v ts) (inTable x (run rows v ts))
+    rest : (b : Bool) → inTable x v ≡ b → Lives x (inTable x v) (history rows v ts) (inTable x (run rows v ts))
+        → Lives x b (history rows v ts) (inTable x (run rows v ts))
     rest b z l = rw z at l
 
     go-absent : requestOf (lookup x (w .requests)) ≡ none → (b : Bool) → submitsIt x e ≡ b

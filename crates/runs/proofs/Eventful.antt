@@ -39,7 +39,8 @@ values = record {
 }
 
 no-reset : NoReset calls
-no-reset = (refl, (refl, (refl, (refl, (refl, (refl, (refl, (refl, (refl, (refl, (refl, (refl, (refl, (refl, (refl, (refl, (refl, (refl, (refl, (refl, (refl, (refl, tt))))))))))))))))))))))
+no-reset =
+    (refl, (refl, (refl, (refl, (refl, (refl, (refl, (refl, (refl, (refl, (refl, (refl, (refl, (refl, (refl, (refl, (refl, (refl, (refl, (refl, (refl, (refl, tt))))))))))))))))))))))
 
 pub accounted : Accounts (agent .transport) (agent .rto) seen (run 3 (begins agent) calls .stats)
 accounted = accounts-are 3 agent calls refl no-reset

@@ -4,7 +4,7 @@
 --     sample-is          what a sample is: the clock minus the clock of the submission, where the request made no step since
 use Prim.Native.Nat.{ℕ, zero, suc, _+_, _-_}
 use mathlib.Core.Path.{_≡_, refl, sym, ap, _∙_, subst}
-use mathlib.Core.Bool.{Bool, true, false, cond, _&&_}
+use mathlib.Core.Bool.{Bool, true, false, cond, not, _&&_}
 use mathlib.Core.List.{List, [], _∷_, _++_, append-assoc, append-nil}
 use mathlib.Core.Option.{Option, none, some}
 use native.Mathlib.Omega.{arith}
@@ -30,7 +30,7 @@ use Rattle.stats.specs.declared.StunAgentStats.{StunAgentStats}
 use Rattle.stats.specs.declared.Event.{Event}
 use Rattle.stats.specs.declared.Event.the-variants as event
 use Rattle.stats.proofs.Fields.{times-after}
-use Rattle.request.specs.Times.{rttOf}
+use Rattle.request.specs.Times.{isDue, rttOf}
 use Rattle.request.specs.Request.{submitted, stepped, silenced, cancelled, configured}
 use Rattle.request.specs.declared.SendTimes.the-variants.{Sent}
 use Rattle.request.proofs.Steps.{step-again}
@@ -65,10 +65,10 @@ use Rattle.runs.specs.Demand.{Start, begins, Submission, submits as subm
 use Rattle.runs.specs.Counts.{Exchange, seen, exchange, history, isYes, one, resets, NoReset}
 use Rattle.runs.specs.Ends.{by-response, submitsBy, submitsIt, respondsTo, endBy, Unended}
 use Rattle.runs.specs.Followed.{onTransmission, reaches, wishedOf, followedBy, followed, followedThrough}
-use Rattle.runs.specs.Samples.{Left, measured, sampleOf, listed, samplesFrom, samples, sumOf, leastOf, greatestOf, RoundTrips, Accounts, dueAt, stepsBy, stepsThrough}
+use Rattle.runs.specs.Samples.{Left, measured, sampleOf, listed, samplesFrom, samples, sumOf, leastOf, greatestOf, RoundTrips, Accounts, stepsBy, stepsThrough}
 use Rattle.runs.proofs.Steady.{run-agent}
 use Rattle.runs.proofs.Counts.{begins-zeroed, counters-are}
-use Rattle.runs.proofs.Followed.{followed-at, follows}
+use Rattle.runs.proofs.Followed.{stands-at, followed-at, follows}
 use Rattle.runs.proofs.Bytes.{passes, formed, is-x}
 
 -- ---- one sample more, at the end of a list
@@ -128,7 +128,8 @@ sent-times n Bad t = refl
 
 heard-times : (n : ℕ) (rtt : Message → Rtt) (takes : Message → Bool) (p : Parsed) (t : Times)
     → timesAfter (onMessage p event.Nothing (λ x. cond (takes x) (receivedAs n (rtt x) (x .class)) event.Nothing)) t
-    ≡ timedBy (cond (isYes (onMessage p answer.No (λ x. yesOrNo (takes x)))) (onMessage p Absent (λ x. cond (isResponse (x .class)) (rtt x) Absent)) Absent) t
+    ≡ timedBy
+    (cond (isYes (onMessage p answer.No (λ x. yesOrNo (takes x)))) (onMessage p Absent (λ x. cond (isResponse (x .class)) (rtt x) Absent)) Absent) t
 heard-times n rtt takes Bad t = refl
 heard-times n rtt takes (Good x) t = go (takes x)
   where
@@ -165,7 +166,8 @@ module _ (rows : ℕ) (w : World) (m : List ℕ) (left : Left) (agrees : (x : �
       rw (done rows w (carries (receives from clock)) m e .answer, answer-receives rows w m from clock)
       (heard-times (length m) (λ y. rttAt clock (lookup (key (y .«transaction_id»)) (w .requests))) (accepts (w .requests) from) (messageOf m) t
       ∙ ap (λ (z : Rtt). timedBy (cond (isYes (onMessage (messageOf m) answer.No (λ y. yesOrNo (accepts (w .requests) from y)))) z Absent) t)
-      (read-same (messageOf m) (λ y. rttAt clock (lookup (key (y .«transaction_id»)) (w .requests))) (λ y. measured clock (left (key (y .«transaction_id»))))
+      (read-same (messageOf m) (λ y. rttAt clock (lookup (key (y .«transaction_id»)) (w .requests)))
+      (λ y. measured clock (left (key (y .«transaction_id»))))
       (λ y. measured-is clock (lookup (key (y .«transaction_id»)) (w .requests)) ∙ ap (measured clock) (agrees (key (y .«transaction_id»))))))
   passed-times (scans transmits now) kept e t = transmit-times (walk (w .agent .transport) now (w .requests) .out) t
   passed-times (scans reports now) kept e t = poll-times (pollAll (w .agent .transport) now (w .requests)) t
@@ -212,7 +214,8 @@ module _ (rows : ℕ) (tr : Transport) (rto : RequestRto) where
       let next : (x : ℕ) → requestOf (lookup x (v .requests)) ≡ followed tr rto x e (left x) =
       λ x. followed-at rows x tr rto w t s c ∙ ap (followed tr rto x e) (agrees x) in
       rw (← append-assoc l (listed (sampleOf left e)) (samplesFrom tr rto (λ x. followed tr rto x e (left x)) (history rows v ts)))
-      (trips-from ts v (λ x. followed tr rto x e (left x)) (l ++ listed (sampleOf left e)) next (a .transport ∙ t) (a .rto ∙ s) (a .stats ∙ on) (kept .1) one)
+      (trips-from ts v (λ x. followed tr rto x e (left x)) (l ++ listed (sampleOf left e)) next
+      (a .transport ∙ t) (a .rto ∙ s) (a .stats ∙ on) (kept .1) one)
 
 pub round-trips-are : (rows : ℕ) (s : Start) (ts : List Turn) → s .stats ≡ true → NoReset ts
     → RoundTrips (samples (s .transport) (s .rto) (history rows (begins s) ts)) (run rows (begins s) ts .stats)
@@ -290,7 +293,8 @@ module _ (tr : Transport) (rto : RequestRto) (x : ℕ) where
     same = record { request = r; is = refl; timed = timed-same c n r t }
 
     submits-on : (to : Address) (now : ℕ) (p : Parsed) → handsOutIt x a ≡ false
-        → Goes-on c (n + 0) (onMessage p (some r) (λ y. onTransmission a (some r) (λ id row len. cond (eqb (key id) x) (some (submitted now id (y .integrity) row len to rto)) (some r))))
+        → Goes-on c (n + 0) (onMessage p (some r) (λ y.
+        onTransmission a (some r) (λ id row len. cond (eqb (key id) x) (some (submitted now id (y .integrity) row len to rto)) (some r))))
     submits-on to now (Good y) e = rw (no-transmission x a (some r) (λ id row len. some (submitted now id (y .integrity) row len to rto)) e) same
     submits-on to now Bad e = same
 
@@ -307,11 +311,11 @@ module _ (tr : Transport) (rto : RequestRto) (x : ℕ) where
     wish-on wish true = record { request = wishedOf wish r; is = refl; timed = timed-same c n (wishedOf wish r) (timed-wished c n r t wish) }
     wish-on wish false = same
 
-    goes-on : (k : Kind) → submitsBy x k a ≡ false → endBy x k m a ≡ none → Goes-on c (n + stepsBy tr rto x k a r) (followedBy tr rto x k m a (some r))
+    goes-on : (k : Kind) → submitsBy x k a ≡ false → endBy x k m a ≡ none → Goes-on c (n + stepsBy tr x k a r) (followedBy tr rto x k m a (some r))
     goes-on (carries (submits to now)) s e = submits-on to now (messageOf m) s
     goes-on (carries (sends to)) s e = same
     goes-on (carries (receives from clock)) s e = receives-on (isYes a && respondsTo x m) e
-    goes-on (scans transmits now) s e = rw (after-exactly tr now r) (transmits-on now (reaches x a) (dueAt tr rto x now r))
+    goes-on (scans transmits now) s e = rw (after-exactly tr now r) (transmits-on now (reaches x a) (not (r .«recv_cancelled») && isDue tr now r))
     goes-on (scans reports now) s e = rw e same
     goes-on (names id wish) s e = wish-on wish (eqb (numberIn a) 0 && eqb (key id) x)
     goes-on (meets addr y) s e = same
@@ -322,8 +326,9 @@ module _ (tr : Transport) (rto : RequestRto) (x : ℕ) where
   timed-through [] c n r q t u e = rw (some-same (sym e), add-zero) t
   timed-through (d ∷ l) c n r q t u e =
       let g = goes-on (d .bytes) (d .answer) c n r t (d .about) (u .1) (u .0) in
-      let k = stepsBy tr rto x (d .about) (d .answer) r in
-      let f : followedThrough tr rto x (some (g .request)) l ≡ some q = sym (ap (λ (o : Option StunRequestState). followedThrough tr rto x o l) (g .is)) ∙ e in
+      let k = stepsBy tr x (d .about) (d .answer) r in
+      let f : followedThrough tr rto x (some (g .request)) l ≡ some q =
+      sym (ap (λ (o : Option StunRequestState). followedThrough tr rto x o l) (g .is)) ∙ e in
       let z : stepsThrough tr rto x (some (g .request)) l ≡ stepsThrough tr rto x (followed tr rto x d (some r)) l =
       ap (λ (o : Option StunRequestState). stepsThrough tr rto x o l) (sym (g .is)) in
       subst (λ (i : ℕ). Timed c i q)
@@ -342,13 +347,14 @@ module _ (rows x : ℕ) (s : Start) (before : List Turn) (q : Submission) (later
 
   pub sample-is : submitsIt x (exchange rows here (submits-of q)) ≡ true → Unended x (history rows then later)
       → (r p : StunRequestState) → requestOf (lookup x (then .requests)) ≡ some r → requestOf (lookup x (run rows then later .requests)) ≡ some p
-      → (now : ℕ) → rttOf now p ≡ cond (eqb (stepsThrough (s .transport) (s .rto) x (some r) (history rows then later)) 0) (Nanos (now - q .now)) Absent
+      → (now : ℕ)
+      → rttOf now p ≡ cond (eqb (stepsThrough (s .transport) (s .rto) x (some r) (history rows then later)) 0) (Nanos (now - q .now)) Absent
   sample-is taken u r p f g now =
       let a = request-accepted rows here (q .to) (q .now) (q .bytes) (formed rows x here q taken) (passes rows x here q taken) in
       let y = a .message in
       let b = submission (q .now) (y .«transaction_id») (y .integrity) (a .row) (length (q .bytes)) (q .to) (here .agent .rto) in
       let z : key (y .«transaction_id») ≡ x = is-x rows x here q taken a in
-      let stood : requestOf (lookup x (then .requests)) ≡ some (a .request) = ap (λ (n : ℕ). requestOf (lookup n (then .requests))) (sym z) ∙ ap requestOf (a .stands) in
+      let stood = ap requestOf (stands-at rows x here (q .to) (q .now) (q .bytes) (said rows here (submits-of q)) a z) in
       let e : r ≡ submitted (q .now) (y .«transaction_id») (y .integrity) (a .row) (length (q .bytes)) (q .to) (here .agent .rto) =
       some-same (sym f ∙ stood) ∙ a .request-is in
       let t : Timed (q .now) 0 r = rw e (record { last = q .now; times = b .times-are; count = b .count-is; unstepped = λ n. refl }) in

@@ -87,7 +87,8 @@ pub data Lives (x : ℕ) : Bool → List Exchange → Bool → Type 0 where
   accepted : {e : Exchange} {l : List Exchange} {b : Bool} → submitsIt x e ≡ true → Lives x true l b → Lives x false (e ∷ l) b
   -- outstanding: not accepted a second time
   stays : {e : Exchange} {l : List Exchange} {b : Bool} → submitsIt x e ≡ false → endOf x e ≡ none → Lives x true l b → Lives x true (e ∷ l) b
-  ends : {e : Exchange} {l : List Exchange} {b : Bool} (how : End) → submitsIt x e ≡ false → endOf x e ≡ some how → Lives x false l b → Lives x true (e ∷ l) b
+  ends : {e : Exchange} {l : List Exchange} {b : Bool} (how : End) → submitsIt x e ≡ false → endOf x e ≡ some how → Lives x false l b
+      → Lives x true (e ∷ l) b
 
 -- Whether x is in the table.
 abbrev pub inTable : ℕ → World → Bool

@@ -122,7 +122,18 @@ pub record Values : Type 0 where
   -- the record, and the same numbers by the calls and answers
   pub record-is : run 3 (begins agent) calls .stats ≡ figures
   pub counts-are :
-      map (λ f. total f seen) (requestsSent ∷ requestsReceived ∷ responsesSent ∷ responsesReceived ∷ indicationsSent ∷ indicationsReceived ∷ timedOut ∷ cancelled ∷ bytesSent ∷ bytesReceived ∷ [])
+      map (λ f. total f seen) (
+      requestsSent
+      ∷ requestsReceived
+      ∷ responsesSent
+      ∷ responsesReceived
+      ∷ indicationsSent
+      ∷ indicationsReceived
+      ∷ timedOut
+      ∷ cancelled
+      ∷ bytesSent
+      ∷ bytesReceived
+      ∷ [])
       ≡ (6 ∷ 1 ∷ 1 ∷ 3 ∷ 1 ∷ 1 ∷ 1 ∷ 1 ∷ 188 ∷ 100 ∷ [])
   pub samples-are : samples (agent .transport) (agent .rto) seen ≡ (7 ∷ 11 ∷ [])
   pub in-the-table : length (run 3 (begins agent) calls .requests) ≡ 1

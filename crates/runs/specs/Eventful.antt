@@ -36,6 +36,10 @@ agent = record {
 abbrev pub second : Submission
 second = record { to = peer 8; now = 0; bytes = message 0x0001 2 (0 ∷ 8 ∷ 0 ∷ 0 ∷ []) }
 
+-- The request 3.
+abbrev pub third : Submission
+third = record { to = peer 9; now = 0; bytes = request 3 }
+
 -- An error response.
 abbrev pub error : ℕ → List ℕ
 error n = message 0x0111 n []
@@ -45,7 +49,7 @@ calls =
     -- three requests, and one that the table has no row for
     with (call.SendRequest (peer 9) 0) (request 1)
     ∷ submits second
-    ∷ with (call.SendRequest (peer 9) 0) (request 3)
+    ∷ submits third
     ∷ with (call.SendRequest (peer 9) 0) (request 4)
     -- other messages out and in
     ∷ with (call.Send (peer 9)) (indication 9)

@@ -22,11 +22,14 @@ use Rattle.model.specs.Calls.{Passage, submits, sends, receives, transmits, rep
 use Rattle.model.specs.Accepts.{onMessage, isResponse}
 use Rattle.model.specs.declared.Answer.{Answer}
 use Rattle.runs.specs.Counts.{Exchange, isYes, one, stopped, Counters}
-use Rattle.runs.specs.Followed.{reaches, followed}
+use Rattle.runs.specs.Followed.{reaches, followed, followedThrough}
 
 -- The requests as the calls so far left them, by identifier.
 abbrev pub Left : Type 0
 Left = ℕ → Option StunRequestState
+
+abbrev pub leftBy : Transport → RequestRto → List Exchange → Left
+leftBy tr rto l x = followedThrough tr rto x none l
 
 -- The sample of one call: an accepted response with a clock, whose request made no step.
 abbrev pub measured : Option ℕ → Option StunRequestState → Rtt

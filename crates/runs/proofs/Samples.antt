@@ -64,9 +64,9 @@ use Rattle.model.proofs.Statistics.{counts-event}
 use Rattle.model.proofs.Kept.{says-agent}
 use Rattle.runs.specs.Run.{kindIn, said, run, handsOutIt}
 use Rattle.runs.specs.Demand.{Start, begins, Submission, submits as submits-of}
-use Rattle.runs.specs.Counts.{Exchange, seen, exchange, history, isYes, one, resets, NoReset}
+use Rattle.runs.specs.Counts.{onTransmission, Exchange, seen, exchange, history, isYes, one, resets, NoReset}
 use Rattle.runs.specs.Ends.{by-response, submitsBy, submitsIt, respondsTo, endBy, Unended}
-use Rattle.runs.specs.Followed.{onTransmission, reaches, wishedOf, followedBy, followed, followedThrough}
+use Rattle.runs.specs.Followed.{reaches, wishedOf, followedBy, followed, followedThrough}
 use Rattle.runs.specs.Samples.{Left, leftBy, measured, sampleOf, listed, samplesFrom, samples, sumOf, leastOf, greatestOf, RoundTrips, Accounts, stepsBy, stepsThrough}
 use Rattle.runs.proofs.Steady.{run-append, run-agent}
 use Rattle.runs.proofs.Counts.{begins-zeroed, counters-are}

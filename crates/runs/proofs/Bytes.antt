@@ -46,7 +46,7 @@ use Rattle.runs.proofs.Spared.{scan-said}
 use Rattle.runs.proofs.Present.{found-of}
 use Rattle.runs.proofs.Demand.{unformed-run}
 use Rattle.runs.proofs.Followed.{stands-at, traced, handedBy, handed}
-use Rattle.runs.proofs.Ends.{moves}
+use Rattle.runs.proofs.Ends.{stays-call}
 
 -- Where the request x stands, and its message.
 record Holds (rows x : ℕ) (to : Address) (m : List ℕ) (w : World) : Type 0 where
@@ -116,7 +116,7 @@ module _ (rows x : ℕ) (to : Address) (m : List ℕ) (w : World) (h : Holds row
 
   holds-after : (k : Kind) → endBy x k b (saysOf rows w k b .answer) ≡ none → Holds rows x to m (saysOf rows w k b .world)
   holds-after k n =
-      let q = moves rows x w b k .stays (h .request) (ap requestOf (h .stands)) n in
+      let q = stays-call rows x w k b (h .request) (ap requestOf (h .stands)) n in
       let f = found-of (lookup x (saysOf rows w k b .world .requests)) (q .1) in
       let p = part-after k (f .0) (q .0) (f .1) in
       record {

@@ -77,7 +77,9 @@ pub record Traced (rows x : ℕ) (w : World) (k : Kind) (m : List ℕ) : Type 0 
   -- where x isn't outstanding, nothing of it is sent but by its acceptance, and it doesn't end
   pub unsent : requestOf (lookup x (w .requests)) ≡ none → handsOutIt x (saysOf rows w k m .answer) ≡ submitsBy x k (saysOf rows w k m .answer)
   pub unended : requestOf (lookup x (w .requests)) ≡ none → endBy x k m (saysOf rows w k m .answer) ≡ none
-  -- where it is, it isn't accepted
+  -- accepted, it is outstanding; where it was, it isn't accepted
+  pub begun : submitsBy x k (saysOf rows w k m .answer) ≡ true
+      → (q : StunRequestState) × (requestOf (lookup x (saysOf rows w k m .world .requests)) ≡ some q)
   pub once : (r : StunRequestState) → requestOf (lookup x (w .requests)) ≡ some r → submitsBy x k (saysOf rows w k m .answer) ≡ false
 
 none-not : {C : Type 0} {r : StunRequestState} {f : Found} → f ≡ Nothing → requestOf f ≡ some r → C
@@ -154,6 +156,7 @@ module _ (rows x : ℕ) (w : World) (m : List ℕ) where
             after = here ∙ rw (a .answers, a .reads, b, a .request-is);
             unsent = λ n. refl;
             unended = λ n. refl;
+            begun = λ h. (a .request, here);
             once = λ r f. none-not gone f;
           }
       go a false b =
@@ -163,6 +166,7 @@ module _ (rows x : ℕ) (w : World) (m : List ℕ) where
             after = s .kept ∙ rw (a .answers, a .reads, b);
             unsent = λ n. refl;
             unended = λ n. refl;
+            begun = λ h. apart (sym (rw (a .answers, b) at h));
             once = λ r f. rw (a .answers, b);
           }
 
@@ -211,6 +215,7 @@ module _ (rows x : ℕ) (w : World) (m : List ℕ) where
               after = t .1 ∙ rw (handled-is, b);
               unsent = λ n. handed-passed (carries (receives from clock)) e;
               unended = λ n. absurd (t .0 n);
+              begun = λ h. apart (sym h);
               once = λ r f. refl;
             }
         go false b =
@@ -219,6 +224,7 @@ module _ (rows x : ℕ) (w : World) (m : List ℕ) where
               after = s .kept ∙ rw (handled-is, b);
               unsent = λ n. handed-passed (carries (receives from clock)) e;
               unended = λ n. rw (handled-is, b);
+              begun = λ h. apart (sym h);
               once = λ r f. refl;
             }
 
@@ -248,6 +254,7 @@ module _ (rows x : ℕ) (w : World) (m : List ℕ) where
         let z = transmit-none t now (w .requests) x (not-found (lookup x (w .requests)) n) in
         rw (s .answers) (other-unsent (walk t now (w .requests) .out) (z .1));
     unended = λ n. refl;
+    begun = λ h. apart (sym h);
     once = λ r f. refl;
   }
     where
@@ -303,6 +310,7 @@ module _ (rows x : ℕ) (w : World) (m : List ℕ) where
         after = rw (s .answers, s .requests) (poll-after t now (w .requests) (formed .requests .order) o p);
         unsent = λ n. handed-passed (scans reports now) e;
         unended = λ n. rw (s .answers) (poll-unended t now (w .requests) (not-found (lookup x (w .requests)) n) o p);
+        begun = λ h. apart (sym h);
         once = λ r f. refl;
       }
 
@@ -327,6 +335,7 @@ module _ (rows x : ℕ) (w : World) (m : List ℕ) where
     after = rw (eq-eqb (numberIn (saysOf rows w (names id wish) m .answer)) 0 (answer-number rows w m (names id wish) ∙ e)) (go (eqb (key id) x) refl);
     unsent = λ n. handed-passed (names id wish) e;
     unended = λ n. refl;
+    begun = λ h. apart (sym h);
     once = λ r f. refl;
   }
     where
@@ -346,6 +355,7 @@ module _ (rows x : ℕ) (w : World) (m : List ℕ) where
     after = passed-spares rows x w formed (carries (sends to)) m refl e refl .kept;
     unsent = λ n. handed-passed (carries (sends to)) e;
     unended = λ n. refl;
+    begun = λ h. apart (sym h);
     once = λ r f. refl;
   }
   traced-passed (carries (receives from clock)) e formed = traced-receives from clock formed e
@@ -356,12 +366,14 @@ module _ (rows x : ℕ) (w : World) (m : List ℕ) where
     after = passed-spares rows x w formed (meets a y) m refl e refl .kept;
     unsent = λ n. handed-passed (meets a y) e;
     unended = λ n. refl;
+    begun = λ h. apart (sym h);
     once = λ r f. refl;
   }
   traced-passed (counts f) e formed = record {
     after = passed-spares rows x w formed (counts f) m refl e refl .kept;
     unsent = λ n. handed-passed (counts f) e;
     unended = λ n. refl;
+    begun = λ h. apart (sym h);
     once = λ r f. refl;
   }
 
@@ -403,6 +415,7 @@ module _ (rows x : ℕ) (w : World) (m : List ℕ) where
             after = rw s (refused-followed n k (requestOf (lookup x (w .requests))));
             unsent = λ z. rw s (sym (refused-does (suc n) k .0));
             unended = λ z. rw s (refused-does (suc n) k .1);
+            begun = λ h. apart (sym (rw s at h) ∙ refused-does (suc n) k .0);
             once = λ r z. rw s (refused-does (suc n) k .0);
           }
 

@@ -16,7 +16,6 @@ use borrow.Author.Tests.{eqb-true}
 use Rattle.address.specs.declared.Address.{Address}
 use Rattle.message.specs.Head.{key}
 use Rattle.message.specs.Attributes.{messageOf}
-use Rattle.message.specs.declared.TransactionId.{TransactionId}
 use Rattle.message.specs.declared.MessageClass.{MessageClass}
 use Rattle.message.specs.declared.MessageClass.the-variants.{Request, Indication, Success, Error}
 use Rattle.message.specs.declared.Message.{Message}
@@ -32,7 +31,7 @@ use Rattle.stats.specs.declared.Event.{Event}
 use Rattle.stats.specs.declared.Event.the-variants as event
 use Rattle.stats.proofs.Fields.{times-after}
 use Rattle.request.specs.Times.{isDue, rttOf}
-use Rattle.request.specs.Request.{submitted, stepped, silenced, cancelled, configured}
+use Rattle.request.specs.Request.{stepped, silenced, cancelled, configured}
 use Rattle.request.specs.declared.SendTimes.the-variants.{Sent}
 use Rattle.request.proofs.Steps.{step-again}
 use Rattle.request.proofs.Answers.{after-exactly}
@@ -62,15 +61,16 @@ use Rattle.model.proofs.Below.{submission}
 use Rattle.model.proofs.Store.{request-accepted}
 use Rattle.model.proofs.Statistics.{counts-event}
 use Rattle.model.proofs.Kept.{says-agent}
-use Rattle.runs.specs.Run.{kindIn, said, run, handsOutIt}
+use Rattle.runs.specs.Run.{kindIn, said, run}
 use Rattle.runs.specs.Demand.{Start, begins, Submission, submits as submits-of}
-use Rattle.runs.specs.Counts.{onTransmission, Exchange, seen, exchange, history, isYes, one, resets, NoReset}
+use Rattle.runs.specs.Counts.{Exchange, seen, exchange, history, isYes, one, resets, NoReset}
 use Rattle.runs.specs.Ends.{by-response, submitsBy, submitsIt, respondsTo, endBy, Unended}
 use Rattle.runs.specs.Followed.{reaches, wishedOf, followedBy, followed, followedThrough}
 use Rattle.runs.specs.Samples.{Left, leftBy, measured, sampleOf, listed, samplesFrom, samples, sumOf, leastOf, greatestOf, RoundTrips, Accounts, stepsBy, stepsThrough}
 use Rattle.runs.proofs.Steady.{run-append, run-agent}
 use Rattle.runs.proofs.Counts.{begins-zeroed, counters-are}
 use Rattle.runs.proofs.Followed.{stands-at, traced, followed-at, follows, follows-fresh}
+use Rattle.runs.proofs.Ends.{submits-other}
 use Rattle.runs.proofs.Bytes.{passes, formed, is-x}
 
 -- ---- one sample more, at the end of a list
@@ -266,23 +266,6 @@ timed-rtt c n r t now = rw (t .times, t .count) (go (eqb n 0) refl)
     go true b = rw (t .unstepped (eqb-true n 0 b))
     go false b = refl
 
--- no transmission of x
-no-transmission : {B : Type 0} (x : ℕ) (a : Answer) (o : B) (f : TransactionId → ℕ → ℕ → B) → handsOutIt x a ≡ false
-    → onTransmission a o (λ id row len. cond (eqb (key id) x) (f id row len) o) ≡ o
-no-transmission x (answer.Refused n) o f e = refl
-no-transmission x answer.Ok o f e = refl
-no-transmission x answer.Yes o f e = refl
-no-transmission x answer.No o f e = refl
-no-transmission x answer.None o f e = refl
-no-transmission x (answer.Send id to row len) o f e = rw e
-no-transmission x (answer.Wait clock) o f e = refl
-no-transmission x (answer.TimedOut id) o f e = refl
-no-transmission x (answer.Cancelled id) o f e = refl
-no-transmission x (answer.Stats s) o f e = refl
-no-transmission x (answer.Average b) o f e = refl
-no-transmission x (answer.Outstanding n) o f e = refl
-no-transmission x (answer.Request to integrity) o f e = refl
-
 module _ (tr : Transport) (rto : RequestRto) (x : ℕ) where
   -- what a call makes of it that neither accepts nor ends it
   record Goes-on (c n : ℕ) (o : Option StunRequestState) : Type 0 where
@@ -293,12 +276,6 @@ module _ (tr : Transport) (rto : RequestRto) (x : ℕ) where
   module _ (m : List ℕ) (a : Answer) (c n : ℕ) (r : StunRequestState) (t : Timed c n r) where
     same : Goes-on c (n + 0) (some r)
     same = record { request = r; is = refl; timed = timed-same c n r t }
-
-    submits-on : (to : Address) (now : ℕ) (p : Parsed) → handsOutIt x a ≡ false
-        → Goes-on c (n + 0) (onMessage p (some r) (λ y.
-        onTransmission a (some r) (λ id row len. cond (eqb (key id) x) (some (submitted now id (y .integrity) row len to rto)) (some r))))
-    submits-on to now (Good y) e = rw (no-transmission x a (some r) (λ id row len. some (submitted now id (y .integrity) row len to rto)) e) same
-    submits-on to now Bad e = same
 
     receives-on : (b : Bool) → cond b (some by-response) none ≡ none → Goes-on c (n + 0) (cond b none (some r))
     receives-on true e = none-some (sym e)
@@ -314,7 +291,7 @@ module _ (tr : Transport) (rto : RequestRto) (x : ℕ) where
     wish-on wish false = same
 
     goes-on : (k : Kind) → submitsBy x k a ≡ false → endBy x k m a ≡ none → Goes-on c (n + stepsBy tr x k a r) (followedBy tr rto x k m a (some r))
-    goes-on (carries (submits to now)) s e = submits-on to now (messageOf m) s
+    goes-on (carries (submits to now)) s e = rw (submits-other tr rto x m a (some r) to now (messageOf m) s) same
     goes-on (carries (sends to)) s e = same
     goes-on (carries (receives from clock)) s e = receives-on (isYes a && respondsTo x m) e
     goes-on (scans transmits now) s e = rw (after-exactly tr now r) (transmits-on now (reaches x a) (not (r .«recv_cancelled») && isDue tr now r))

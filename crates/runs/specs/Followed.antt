@@ -8,7 +8,6 @@ use mathlib.Core.Option.{Option, none, some}
 use lib.Dec.{eqb, leb}
 use Rattle.message.specs.Head.{key}
 use Rattle.message.specs.Attributes.{messageOf}
-use Rattle.message.specs.declared.TransactionId.{TransactionId}
 use Rattle.waits.specs.declared.RequestRto.{RequestRto}
 use Rattle.waits.specs.declared.Transport.{Transport}
 use Rattle.request.specs.Request.{submitted, silenced, cancelled, configured, transmitOf}

@@ -1,11 +1,12 @@
 -- The ten counters over a run are counts and sums over its calls and answers.
 --     counters-are     from a fresh agent with statistics on, without a reset
 --     counters-since   from any world with the record zeroed
+--     history-answers  the answers of a run's history are the run's
 --     tallied          one call that isn't refused: its event adds to each counter what the call and its answer say
 use Prim.Native.Nat.{ℕ, zero, suc, _+_}
 use mathlib.Core.Path.{_≡_, refl, sym, ap, _∙_}
 use mathlib.Core.Bool.{Bool, true, false, cond, _||_}
-use mathlib.Core.List.{List, [], _∷_}
+use mathlib.Core.List.{List, [], _∷_, map}
 use native.Mathlib.Omega.{arith}
 use native.Mathlib.Nat.{add-zero, zero-add, add-assoc}
 use mathlib.Core.Option.{Option}
@@ -40,7 +41,8 @@ use Rattle.model.specs.Refusals.{BAD-MESSAGE, WRONG-CLASS, isRequest, refusalOf
 use Rattle.model.specs.Effects.{transmitAnswer, pollAnswer, yesOrNo, sentAs, receivedAs, rttAt, transmitEvent, pollEvent, eventBy}
 use Rattle.model.specs.Says.{Said, saysOf}
 use Rattle.model.specs.Fresh.{freshEvent}
-use Rattle.model.specs.Runs.{Turn}
+use Rattle.model.specs.Runs.{Turn, answers}
+use Rattle.model.specs.declared.Answer.{Answer}
 use Rattle.model.specs.declared.Answer.the-variants as answer
 use Rattle.model.proofs.Refused.{passed-exactly, refused-same}
 use Rattle.model.proofs.Classes.{passed-formed, done, event-on, answer-sends, answer-receives, answer-transmits, answer-reports}
@@ -50,6 +52,12 @@ use Rattle.model.proofs.Store.{request-accepted}
 use Rattle.runs.specs.Run.{kindIn, said, run}
 use Rattle.runs.specs.Demand.{Start, begins}
 use Rattle.runs.specs.Counts.{Exchange, seen, exchange, history, requestsSent, requestsReceived, responsesSent, responsesReceived, indicationsSent, indicationsReceived, timedOut, cancelled, bytesSent, bytesReceived, total, stopped, Counters, resets, NoReset}
+
+-- The answers of a run's history are the run's.
+pub history-answers : (rows : ℕ) (ts : List Turn) (w : World) → map (λ e. e .answer) (history rows w ts) ≡ answers rows w ts
+unfolding history answers
+history-answers rows [] w = refl
+history-answers rows (t ∷ ts) w = ap (λ (l : List Answer). said rows w t .answer ∷ l) (history-answers rows ts (said rows w t .world))
 
 -- What a move adds, and the ten counters side by side.
 abbrev pub amount : Move → ℕ

@@ -88,9 +88,10 @@ module _ (a : StunAgent) (places : ℕ) (t store : List ℕ) (isKnown : Bool) (s
   pub unready-arm : ready a places t store ≡ false → r ≡ refusedWith a 1 → Dispatched a c isKnown places st m t store t store r
   unfolding refusalIn
   unready-arm e f = λ peers fits is.
+      let here = worldOf a t store peers st in
+      let no = sym (state-ready a places t store peers st fits) ∙ e in
       refused-does a t store peers st (kindOf c) m 0 r
-      (bad-state (leb size (length t)) (stateFormed 32 (worldOf a t store peers st)) (refusalOf 32 (worldOf a t store peers st) (kindOf c) m) (sym (state-ready a places t store peers st fits) ∙ e) (bad-state-first 32 (worldOf a t store peers st) (kindOf c) m))
-      f
+      (bad-state (leb size (length t)) (stateFormed 32 here) (refusalOf 32 here (kindOf c) m) no (bad-state-first 32 here (kindOf c) m)) f
 
 -- ---- in a state that is ready
 
@@ -133,31 +134,41 @@ module _ (a : StunAgent) (places : ℕ) (t store : List ℕ) (isKnown : Bool) (s
     still e f x =
         does t store (record {
           says = x;
-          then = table-by (a .transport) (a .requests) t t _ keeps (unless-keeps (refusalPast 32 here k m) (changeOf 32 here k m) e) (kept-same (a .transport) (a .requests) t);
+          then =
+              table-by (a .transport) (a .requests) t t _ keeps (unless-keeps (refusalPast 32 here k m) (changeOf 32 here k m) e)
+              (kept-same (a .transport) (a .requests) t);
         }) (store-past f)
 
-  by-kind : (k : Kind) (t′ store′ : List ℕ) → kindOf c ≡ k
-      → ((peers : List Address) → length peers ≡ places → known (worldOf a t store peers st) (onSome (addressOf k) nowhere (λ x. x)) ≡ isKnown → Does (worldOf a t store peers st) k m t t′ store′ r)
-      → Dispatched a c isKnown places st m t store t′ store′ r
-  by-kind k t′ store′ e x =
-      subst (λ (z : Kind). (peers : List Address) → length peers ≡ places → known (worldOf a t store peers st) (onSome (addressOf z) nowhere (λ y. y)) ≡ isKnown → Does (worldOf a t store peers st) z m t t′ store′ r) (sym e) x
+  -- the promise of a call is that of its class
+  abbrev DispatchedAs : List ℕ → List ℕ → Kind → Type 0
+  DispatchedAs t′ store′ k =
+      (peers : List Address) → length peers ≡ places → known (worldOf a t store peers st) (onSome (addressOf k) nowhere (λ x. x)) ≡ isKnown
+      → Does (worldOf a t store peers st) k m t t′ store′ r
+
+  by-kind : (k : Kind) (t′ store′ : List ℕ) → kindOf c ≡ k → DispatchedAs t′ store′ k → Dispatched a c isKnown places st m t store t′ store′ r
+  by-kind k t′ store′ e x = subst (DispatchedAs t′ store′) (sym e) x
 
   pub counting-arm : (f : Figure) → kindOf c ≡ counts f → Counting a st (counts f) r → Dispatched a c isKnown places st m t store t store r
   counting-arm f e x =
-      by-kind (counts f) t store e (λ peers fits is. still (counts f) peers fits (change-counts 32 _ m f) refl (x (live (a .requests) t) store m peers))
+      by-kind (counts f) t store e (λ peers fits is.
+      still (counts f) peers fits (change-counts 32 _ m f) refl (x (live (a .requests) t) store m peers))
 
   pub meeting-arm : (addr : Address) (y : Meeting) → kindOf c ≡ meets addr y → called-specs.Meeting a addr isKnown places (meets addr y) r
       → Dispatched a c isKnown places st m t store t store r
   meeting-arm addr y e x =
-      by-kind (meets addr y) t store e (λ peers fits is. still (meets addr y) peers fits (change-meets 32 _ m addr y) refl (x (live (a .requests) t) store m peers st fits is))
+      by-kind (meets addr y) t store e (λ peers fits is.
+      still (meets addr y) peers fits (change-meets 32 _ m addr y) refl (x (live (a .requests) t) store m peers st fits is))
 
   pub carrying-arm : (to : Address) → kindOf c ≡ carries (sends to) → Carrying a (carries (sends to)) m r → Dispatched a c isKnown places st m t store t store r
   carrying-arm to e x =
-      by-kind (carries (sends to)) t store e (λ peers fits is. still (carries (sends to)) peers fits (change-sends 32 _ m to) refl (x (live (a .requests) t) store peers st))
+      by-kind (carries (sends to)) t store e (λ peers fits is.
+      still (carries (sends to)) peers fits (change-sends 32 _ m to) refl (x (live (a .requests) t) store peers st))
 
   pub looking-arm : (id : TransactionId) → kindOf c ≡ names id query → Looking a t (names id query) r → Dispatched a c isKnown places st m t store t store r
   looking-arm id e x =
-      by-kind (names id query) t store e (λ peers fits is. still (names id query) peers fits (change-names 32 _ m id query ∙ query-keeps (lookup (key id) (live (a .requests) t))) refl (x store m peers st))
+      by-kind (names id query) t store e (λ peers fits is.
+      let quiet = change-names 32 _ m id query ∙ query-keeps (lookup (key id) (live (a .requests) t)) in
+      still (names id query) peers fits quiet refl (x store m peers st))
 
   pub turning-arm : (k : Kind) (t′ : List ℕ) → kindOf c ≡ k → onSome (passageOf k) false isSubmitted ≡ false → Turning a k t t′ r
       → Dispatched a c isKnown places st m t store t′ store r
@@ -166,12 +177,15 @@ module _ (a : StunAgent) (places : ℕ) (t store : List ℕ) (isKnown : Bool) (s
   pub receiving-arm : (from : Address) (clock : Option ℕ) (t′ : List ℕ) → kindOf c ≡ carries (receives from clock) → Receiving a from isKnown places clock m t t′ r
       → Dispatched a c isKnown places st m t store t′ store r
   receiving-arm from clock t′ e x =
-      by-kind (carries (receives from clock)) t′ store e (λ peers fits is. does (carries (receives from clock)) peers fits t′ store (x store peers st fits is) (store-past (carries (receives from clock)) peers fits refl))
+      by-kind (carries (receives from clock)) t′ store e (λ peers fits is.
+      let k = carries (receives from clock) in
+      does k peers fits t′ store (x store peers st fits is) (store-past k peers fits refl))
 
   pub submitting-arm : (to : Address) (now : ℕ) (t′ store′ : List ℕ) → kindOf c ≡ carries (submits to now) → Submitting a to now m t store t′ store′ r
       → Dispatched a c isKnown places st m t store t′ store′ r
   submitting-arm to now t′ store′ e x =
-      by-kind (carries (submits to now)) t′ store′ e (λ peers fits is. does (carries (submits to now)) peers fits t′ store′ (x peers st .acts) (x peers st .stores))
+      by-kind (carries (submits to now)) t′ store′ e (λ peers fits is.
+      does (carries (submits to now)) peers fits t′ store′ (x peers st .acts) (x peers st .stores))
 
 -- ---- the address
 

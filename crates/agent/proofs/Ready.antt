@@ -2,7 +2,7 @@
 --     state-ready     the test, in any world of this agent and what is lent
 --     ready-says      what the calls over the table ask
 use Prim.Native.Nat.{ℕ, _*_, _^_, _≤_, _<_}
-use mathlib.Core.Path.{_≡_, refl, sym, ap, _∙_}
+use mathlib.Core.Path.{_≡_, refl, sym, _∙_}
 use mathlib.Core.Bool.{Bool, true, false, cond, not, _&&_, and-eq-true-iff}
 use mathlib.Core.List.{List, []}
 use lib.Dec.{leb}

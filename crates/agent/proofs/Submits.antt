@@ -102,7 +102,8 @@ module _ (n : ℕ) (new : Option StunRequestState) (a : StunAgent) (now len : �
   sent-adds q e f = rw (e, f)
 
 -- The answer and the event, as the code has them.
-sent-as : (a next : StunAgent) (q : StunRequestState) (len n : ℕ) (x : Answer) (e : Event) (r : Called) → n ≡ len → x ≡ handedOut q → e ≡ noted a (event.RequestSent n)
+sent-as : (a next : StunAgent) (q : StunRequestState) (len n : ℕ) (x : Answer) (e : Event) (r : Called)
+    → n ≡ len → x ≡ handedOut q → e ≡ noted a (event.RequestSent n)
     → r ≡ calledOf next x e Nowhere → r ≡ calledOf next (handedOut q) (noted a (event.RequestSent len)) Nowhere
 sent-as a next q len n x e r f g h z = rw (← g, ← f, ← h) z
 
@@ -130,37 +131,41 @@ module _ (a : StunAgent) (t : List ℕ) (to : Address) (now : ℕ) (m store : Li
   abbrev busy : Message → Bool
   busy x = isOutstanding reqs (x .«transaction_id»)
 
-  numbered : refusalPast 32 w (carries (submits to now)) m ≡ number (isLate a now) (ltb 1024 (length m)) (messageOf m) busy (leb 32 (length reqs))
+  abbrev full : Bool
+  full = leb 32 (length reqs)
+
+  numbered : refusalPast 32 w (carries (submits to now)) m ≡ number (isLate a now) (ltb 1024 (length m)) (messageOf m) busy full
   numbered = past-submits 32 w m to now
 
   pub submits-late : isLate a now ≡ true → r ≡ refusedWith a 3 → Submits w to now m t t store r
-  submits-late e = refuses 2 (numbered ∙ number-late (isLate a now) (ltb 1024 (length m)) (messageOf m) busy (leb 32 (length reqs)) e)
+  submits-late e = refuses 2 (numbered ∙ number-late _ (ltb 1024 (length m)) (messageOf m) busy full e)
 
   module _ (early : isLate a now ≡ false) where
     pub submits-long : 1024 < length m → r ≡ refusedWith a 4 → Submits w to now m t t store r
-    submits-long h =
-        refuses 3 (numbered ∙ number-long (isLate a now) (ltb 1024 (length m)) (messageOf m) busy (leb 32 (length reqs)) early (lt-ltb 1024 (length m) h))
+    submits-long h = refuses 3 (numbered ∙ number-long _ _ (messageOf m) busy full early (lt-ltb 1024 (length m) h))
 
     module _ (short : length m ≤ 1024) where
+      in-row : ltb 1024 (length m) ≡ false
+      in-row = le-ltb 1024 (length m) short
+
       pub submits-bad : messageOf m ≡ Bad → r ≡ refusedWith a 5 → Submits w to now m t t store r
-      submits-bad e =
-          refuses 4 (numbered ∙ number-bad (isLate a now) (ltb 1024 (length m)) (messageOf m) busy (leb 32 (length reqs)) early (le-ltb 1024 (length m) short) e)
+      submits-bad e = refuses 4 (numbered ∙ number-bad _ _ (messageOf m) busy full early in-row e)
 
       module _ (x : Message) (reads : messageOf m ≡ Good x) where
         pub submits-class : isRequest (x .class) ≡ false → r ≡ refusedWith a 6 → Submits w to now m t t store r
-        submits-class e =
-            refuses 5 (numbered ∙ number-class (isLate a now) (ltb 1024 (length m)) (messageOf m) busy (leb 32 (length reqs)) x early (le-ltb 1024 (length m) short) reads e)
+        submits-class e = refuses 5 (numbered ∙ number-class _ _ (messageOf m) busy full x early in-row reads e)
 
         module _ (class : isRequest (x .class) ≡ true) where
-          pub submits-busy : (i : ℕ) (q : StunRequestState) → lookup (key (x .«transaction_id»)) reqs ≡ At i q → r ≡ refusedWith a 7 → Submits w to now m t t store r
-          submits-busy i q e =
-              refuses 6 (numbered ∙ number-busy (isLate a now) (ltb 1024 (length m)) (messageOf m) busy (leb 32 (length reqs)) x early (le-ltb 1024 (length m) short) reads class (ap isFound e))
+          pub submits-busy : (i : ℕ) (q : StunRequestState) → lookup (key (x .«transaction_id»)) reqs ≡ At i q → r ≡ refusedWith a 7
+              → Submits w to now m t t store r
+          submits-busy i q e = refuses 6 (numbered ∙ number-busy _ _ (messageOf m) busy full x early in-row reads class (ap isFound e))
 
           module _ (lent : Lent a t) (new : lookup (key (x .«transaction_id»)) reqs ≡ Nothing) where
             pub submits-full : freeRow 32 reqs ≡ Full → r ≡ refusedWith a 8 → Submits w to now m t t store r
             submits-full e =
                 let h = full-count 32 reqs (a .mark) (lent .requests .apart) (lent .requests .within) .0 e in
-                refuses 7 (numbered ∙ number-full (isLate a now) (ltb 1024 (length m)) (messageOf m) busy (leb 32 (length reqs)) x early (le-ltb 1024 (length m) short) reads class (ap isFound new) (le-leb 32 (length reqs) (omega arith)))
+                let none-left = le-leb 32 (length reqs) (omega arith) in
+                refuses 7 (numbered ∙ number-full _ _ (messageOf m) busy full x early in-row reads class (ap isFound new) none-left)
 
             module _ (row : ℕ) (free : freeRow 32 reqs ≡ Row row) where
               abbrev theRequest : StunRequestState
@@ -172,9 +177,11 @@ module _ (a : StunAgent) (t : List ℕ) (to : Address) (now : ℕ) (m store : Li
 
               passes : refusalPast 32 w (carries (submits to now)) m ≡ 0
               passes =
-                  numbered ∙ number-none (isLate a now) (ltb 1024 (length m)) (messageOf m) busy (leb 32 (length reqs)) x early (le-ltb 1024 (length m) short) reads class (ap isFound new) (lt-leb 32 (length reqs) (free-fewer 32 reqs (a .mark) (lent .requests .apart) (lent .requests .within) row free))
+                  let h = free-fewer 32 reqs (a .mark) (lent .requests .apart) (lent .requests .within) row free in
+                  numbered ∙ number-none _ _ (messageOf m) busy full x early in-row reads class (ap isFound new) (lt-leb 32 (length reqs) h)
 
-              sent : (t′ store′ : List ℕ) (q : StunRequestState) → q ≡ theRequest → TableAfter (a .transport) (adds q) (a .requests) t t′ → store′ ≡ copied 32 store (q .row) m
+              sent : (t′ store′ : List ℕ) (q : StunRequestState) → q ≡ theRequest
+                  → TableAfter (a .transport) (adds q) (a .requests) t t′ → store′ ≡ copied 32 store (q .row) m
                   → r ≡ calledOf (moved a now (a .requests + 1) (a .peers)) (handedOut q) (noted a (event.RequestSent (length m))) Nowhere
                   → Submits w to now m t t′ store′ r
               unfolding called changePast newPeer after changeOf peerCount answerOf eventOf
@@ -199,7 +206,8 @@ module _ (a : StunAgent) (t : List ℕ) (to : Address) (now : ℕ) (m store : Li
                   let id-is : q .«transaction_id» ≡ x .«transaction_id» = ap (λ (z : StunRequestState). z .«transaction_id») is ∙ fields .id-is in
                   let row-is : q .row ≡ row = ap (λ (z : StunRequestState). z .row) is ∙ fields .row-is in
                   let at-is : at ≡ placeOf (keyOf q) reqs = placed ∙ ap (λ (id : TransactionId). placeOf (key id) reqs) (sym id-is) in
-                  sent t′ store′ q is (rw (← at-is) became) (stored ∙ ap (λ (i : ℕ). copied 32 store i m) (sym row-is)) (sent-as a _ q (length m) n y e r counted out noted-is f)
+                  sent t′ store′ q is (rw (← at-is) became) (stored ∙ ap (λ (i : ℕ). copied 32 store i m) (sym row-is))
+                  (sent-as a _ q (length m) n y e r counted out noted-is f)
 
 -- ---- what the parts ask
 

@@ -475,55 +475,6 @@ fn handed_out(request: StunRequestState) -> Answer
     }
 }
 
-// The first transmission is handed out here.
-fn send_request(
-    agent: StunAgent,
-    table: &mut [u64],
-    store: &mut [u8],
-    to: Address,
-    clock: u64,
-    message: &[u8],
-) -> Called
-    requires { ⌜ Lent agent (now table) ⌝ }
-    ensures { λ r. ⌜ Submitting agent to clock (now (message .entry)) (now (table .entry)) (now (store .entry)) (now (table .exit)) (now (store .exit)) r ⌝ }
-{
-    if is_late(agent, clock) {
-        return refused(agent, 3);
-    }
-    let len = message.len();
-    if len > ROW {
-        return refused(agent, 4);
-    }
-    let Parsed::Good(x) = Message::from_bytes(message) else {
-        return refused(agent, 5);
-    };
-    let class = x.class;
-    if !is_request(class) {
-        return refused(agent, 6);
-    }
-    let n = agent.requests;
-    let id = x.transaction_id;
-    let Found::Nothing = table::find(table, n, id) else {
-        return refused(agent, 7);
-    };
-    // 32 requests have all the rows, and fewer leave one free.
-    let FreeRow::Row(row) = formed::free_row(table, n) else {
-        return refused(agent, 8);
-    };
-    let transport = agent.transport;
-    let integrity = x.integrity;
-    let rto = agent.rto;
-    let q = StunRequestState::submitted(transport, clock, id, integrity, row, len, to, rto);
-    store::copy(store, row, message);
-    let at = table::place(table, n, id);
-    table::insert(table, n, at, q);
-    let mut next = agent;
-    next.mark = clock;
-    next.requests = n + 1;
-    let event = event_of(agent, Event::RequestSent(wide(len)));
-    done(next, handed_out(q), event, Place::Nowhere)
-}
-
 fn poll_transmit(agent: StunAgent, table: &mut [u64], clock: u64) -> Called
     requires { ⌜ Lent agent (now table) ⌝ }
     ensures { λ r. ⌜ Turning agent (scans transmits clock) (now (table .entry)) (now (table .exit)) r ⌝ }
@@ -570,6 +521,57 @@ fn poll(agent: StunAgent, table: &mut [u64], clock: u64) -> Called
         }
         Polled::WaitUntil(w) => done(next, Answer::Wait(w), Event::Nothing, Place::Nowhere),
     }
+}
+
+// ---- the calls over the table: a new request
+
+// "`send_request` stores the bytes and hands out the first transmission itself."
+fn send_request(
+    agent: StunAgent,
+    table: &mut [u64],
+    store: &mut [u8],
+    to: Address,
+    clock: u64,
+    message: &[u8],
+) -> Called
+    requires { ⌜ Lent agent (now table) ⌝ }
+    ensures { λ r. ⌜ Submitting agent to clock (now (message .entry)) (now (table .entry)) (now (store .entry)) (now (table .exit)) (now (store .exit)) r ⌝ }
+{
+    if is_late(agent, clock) {
+        return refused(agent, 3);
+    }
+    let len = message.len();
+    if len > ROW {
+        return refused(agent, 4);
+    }
+    let Parsed::Good(x) = Message::from_bytes(message) else {
+        return refused(agent, 5);
+    };
+    let class = x.class;
+    if !is_request(class) {
+        return refused(agent, 6);
+    }
+    let n = agent.requests;
+    let id = x.transaction_id;
+    let Found::Nothing = table::find(table, n, id) else {
+        return refused(agent, 7);
+    };
+    // 32 requests have all the rows, and fewer leave one free.
+    let FreeRow::Row(row) = formed::free_row(table, n) else {
+        return refused(agent, 8);
+    };
+    let transport = agent.transport;
+    let integrity = x.integrity;
+    let rto = agent.rto;
+    let q = StunRequestState::submitted(transport, clock, id, integrity, row, len, to, rto);
+    store::copy(store, row, message);
+    let at = table::place(table, n, id);
+    table::insert(table, n, at, q);
+    let mut next = agent;
+    next.mark = clock;
+    next.requests = n + 1;
+    let event = event_of(agent, Event::RequestSent(wide(len)));
+    done(next, handed_out(q), event, Place::Nowhere)
 }
 
 // ---- received messages

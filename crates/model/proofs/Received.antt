@@ -1,4 +1,5 @@
--- What a received message does, of a call that isn't refused: document 01, "The agent". Nothing here opens `accepts`.
+-- What a received message does, of a call that isn't refused: document 01, "The agent". Only `response-found` opens `accepts`.
+--     response-found                        an accepted response has its request
 --     not-accepted                          only the clock mark moves
 --     accepted-yes                          an accepted message is answered with yes
 --     response-taken, others-stay           an accepted response takes its request out, and no other
@@ -26,13 +27,14 @@ use Rattle.stats.specs.declared.Event.the-variants as event
 use Rattle.stats.proofs.Fields.{nothing}
 use Rattle.request.specs.declared.StunRequestState.{StunRequestState}
 use Rattle.requests.specs.Search.{lookup, requestOf}
+use Rattle.requests.specs.declared.Found.{Found}
 use Rattle.requests.specs.declared.Found.the-variants.{At, Nothing}
 use Rattle.requests.proofs.Lists.{apart}
 use Rattle.requests.proofs.Search.{lookup-taken, lookup-taken-other}
 use Rattle.peers.specs.Peers.{listed}
 use Rattle.model.specs.World.{World, StateFormed, known}
 use Rattle.model.specs.Calls.{receives, Kind, carries}
-use Rattle.model.specs.Accepts.{isResponse, accepts, validated, newPeer}
+use Rattle.model.specs.Accepts.{isFound, isResponse, accepts, validated, newPeer}
 use Rattle.model.specs.Refusals.{refusalOf}
 use Rattle.model.specs.Effects.{Change, keeps, removes, changed, changeOf, answerOf, eventOf, markAfter, peersAfter, peerCount, afterBy, after}
 use Rattle.model.specs.Says.{Said, saysOf}
@@ -40,6 +42,16 @@ use Rattle.model.specs.declared.Answer.the-variants as answer
 use Rattle.model.proofs.Refused.{passed-exactly, refused-same, passed-does}
 use Rattle.model.proofs.Changes.{peer-fits}
 use Rattle.model.proofs.Peers.{peer-joined, peers-same}
+
+-- An accepted response has its request.
+pub response-found : (l : List StunRequestState) (from : Address) (x : Message) → accepts l from x ≡ true → isResponse (x .class) ≡ true
+    → (i : ℕ) × (r : StunRequestState) × (lookup (key (x .«transaction_id»)) l ≡ At i r)
+unfolding accepts
+response-found l from x taken response = go (lookup (key (x .«transaction_id»)) l) (rw response at taken)
+  where
+    go : (f : Found) → isFound f ≡ true → (i : ℕ) × (r : StunRequestState) × (f ≡ At i r)
+    go (At i r) e = (i, r, refl)
+    go Nothing e = apart (sym e)
 
 -- The same world at another clock mark.
 abbrev pub marked : ℕ → World → World

@@ -3,18 +3,19 @@
 --     walk-sends, walk-first, sent-placed, sent-key    the request that goes out is the first that would
 --     quiet-exactly, walk-quiet                        none goes out
 --     transmit-at, transmit-found, transmit-none       what it makes of the request at a place, or with an identifier
+--     scanned, scanned-found                           the same by the request that goes out: those up to it are passed by
 --     loud-stays, loud-met, changes-exactly            of one that isn't silenced: that depends on the request and the clock
 --     walk-by                                          the scan over other places that hold a request each
-use Prim.Native.Nat.{ℕ, zero, suc, _+_, _≤_}
+use Prim.Native.Nat.{ℕ, zero, suc, _+_, _≤_, _<_}
 use mathlib.Core.Path.{_≡_, refl, sym, ap, _∙_, subst}
 use mathlib.Core.Bool.{Bool, true, false, cond}
 use mathlib.Core.Logic.{_↔_}
 use mathlib.Core.List.{List, [], _∷_, _++_, map}
 use mathlib.Core.Option.{some}
 use native.Mathlib.Omega.{arith}
-use lib.Dec.{eqb}
+use lib.Dec.{eqb, leb}
 use lib.ListN.{length, take, drop, getElem?, length-map}
-use borrow.Author.Tests.{eqb-false}
+use borrow.Author.Tests.{eqb-false, le-leb, lt-leb}
 use Rattle.rows.specs.Lists.{among}
 use Rattle.message.specs.Head.{key}
 use Rattle.waits.specs.declared.Transport.{Transport}
@@ -258,6 +259,72 @@ module _ (t : Transport) (now : ℕ) where
   transmit-none l k e =
       let n : among k (keysOf l) ≡ false = none-exactly k l .0 e in
       (none-exactly k (walk t now l .after) .1 (rw (walk-keys t now l) n), other-out k l n)
+
+-- ---- the same by the request that goes out
+
+-- the request r after a scan that found o: passed by, unless it stands behind the one that went out
+abbrev pub scanned : Transport → ℕ → Transmitted → StunRequestState → StunRequestState
+scanned t now (Sends p) r = cond (leb (keyOf r) (keyOf p)) (passedBy t now r) r
+scanned t now Quiet r = passedBy t now r
+
+placed-above : (a i : ℕ) (r : StunRequestState) (l : List StunRequestState) → Ascending (a ∷ keysOf l) → getElem? l i ≡ some r → a < keyOf r
+placed-above a i r [] s e = none-some e
+placed-above a zero r (q ∷ l) s e = let z : keyOf q ≡ keyOf r = ap keyOf (some-same e) in omega (arith, s .0)
+placed-above a (suc i) r (q ∷ l) s e = omega (arith, s .0, placed-above (keyOf q) i r l (s .1) e)
+
+module _ (t : Transport) (now : ℕ) where
+  -- the first request, where another one went out or none
+  first-scanned : (r : StunRequestState) (rs : List StunRequestState) → Ascending (keysOf (r ∷ rs)) → (o : Transmitted) → walk t now rs .out ≡ o
+      → passedBy t now r ≡ scanned t now o r
+  first-scanned r rs s (Sends p) e =
+      let f = walk-sends t now rs p e in
+      let k : keyOf p ≡ keyOf (f .request) = sent-key t now rs p (walk t now rs .after) f in
+      let h : keyOf r ≤ keyOf p = omega (arith, k, placed-above (keyOf r) (f .place) (f .request) rs s (f .placed)) in
+      rw (le-leb (keyOf r) (keyOf p) h)
+  first-scanned r rs s Quiet e = refl
+
+  scanned-at : (l : List StunRequestState) (i : ℕ) (r : StunRequestState) → Ascending (keysOf l) → getElem? l i ≡ some r
+      → getElem? (walk t now l .after) i ≡ some (scanned t now (walk t now l .out) r)
+  scanned-at [] i r s e = none-some e
+  scanned-at (x ∷ xs) zero r s e =
+      go (transmitOf t now x) refl ∙ ap (λ (q : StunRequestState). some (scanned t now (walk t now (x ∷ xs) .out) q)) (some-same e)
+    where
+      passes : (q : StunRequestState) → passedBy t now x ≡ q → some q ≡ some (scanned t now (walk t now xs .out) x)
+      passes q z = ap some (sym z ∙ first-scanned x xs s (walk t now xs .out) refl)
+
+      go : (a : StunRequestTransmit) → transmitOf t now x ≡ a
+          → getElem? (walkOn t now a x xs .after) 0 ≡ some (scanned t now (walkOn t now a x xs .out) x)
+      go (Goes p) b =
+          let k : keyOf p ≡ keyOf x = ap key (goes-same t now x p b .id) in
+          rw (le-leb (keyOf x) (keyOf p) (omega arith), b)
+      go (Passes p) b = passes p (ap (recordAfter x) b)
+      go Rests b = passes x (ap (recordAfter x) b)
+  scanned-at (x ∷ xs) (suc i) r s e = go (transmitOf t now x) refl (scanned-at xs i r (ascending-tail (keyOf x) (keysOf xs) s) e)
+    where
+      go : (a : StunRequestTransmit) → transmitOf t now x ≡ a → getElem? (walk t now xs .after) i ≡ some (scanned t now (walk t now xs .out) r)
+          → getElem? (walkOn t now a x xs .after) (suc i) ≡ some (scanned t now (walkOn t now a x xs .out) r)
+      go (Goes p) b ih =
+          let k : keyOf p ≡ keyOf x = ap key (goes-same t now x p b .id) in
+          rw (lt-leb (keyOf r) (keyOf p) (omega (arith, placed-above (keyOf x) i r xs s e))) e
+      go (Passes p) b ih = ih
+      go Rests b ih = ih
+
+  scanned-key : (o : Transmitted) (r : StunRequestState) → keyOf (scanned t now o r) ≡ keyOf r
+  scanned-key (Sends p) r = go (leb (keyOf r) (keyOf p))
+    where
+      go : (b : Bool) → keyOf (cond b (passedBy t now r) r) ≡ keyOf r
+      go true = ap key (same-transmit r now t .id)
+      go false = refl
+  scanned-key Quiet r = ap key (same-transmit r now t .id)
+
+  pub scanned-found : (l : List StunRequestState) (k i : ℕ) (r : StunRequestState) → Ascending (keysOf l) → lookup k l ≡ At i r
+      → lookup k (walk t now l .after) ≡ At i (scanned t now (walk t now l .out) r)
+  scanned-found l k i r s e =
+      let f = found-at k i r l e in
+      let q = scanned t now (walk t now l .out) r in
+      let same : keyOf q ≡ k = scanned-key (walk t now l .out) r ∙ f .key-is in
+      let order : Ascending (keysOf (walk t now l .after)) = rw (walk-keys t now l) s in
+      rw same at (placed-found i q (walk t now l .after) order (scanned-at l i r s (f .placed)))
 
 -- ---- a request that isn't silenced
 

@@ -3,6 +3,7 @@
 --     use-next, use-here, use-end            the test of a list, request by request
 --     own-in-use                             a request's own row and length are in use
 --     in-use-exactly                         with different rows: a request's row is in use with a length exactly when the length is its own
+--     row-once                               no two requests share a row
 --     in-use-placed, not-in-use              what is in use is some request's; a row that none has is not in use with any length
 use Prim.Native.Nat.{ℕ, zero, suc, _+_}
 use mathlib.Core.Path.{_≡_, refl, sym, ap, _∙_}
@@ -81,6 +82,16 @@ among-placed : (l : List StunRequestState) (i : ℕ) (r : StunRequestState) → 
 among-placed [] i r p = none-some p
 among-placed (x ∷ l) zero r p = rw (some-same p, eq-eqb (r .row) (r .row) refl)
 among-placed (x ∷ l) (suc i) r p = either-true (eqb (x .row) (r .row)) (among (r .row) (rowsOf l)) (among-placed l i r p)
+
+pub row-once : (l : List StunRequestState) (i j : ℕ) (r q : StunRequestState) → Different (rowsOf l) → getElem? l i ≡ some r → getElem? l j ≡ some q
+    → r .row ≡ q .row → r ≡ q
+row-once [] i j r q d e f z = none-some e
+row-once (x ∷ l) zero zero r q d e f z = sym (some-same e) ∙ some-same f
+row-once (x ∷ l) zero (suc j) r q d e f z =
+    absurd (d .0 (ap (λ (n : ℕ). among n (rowsOf l)) (ap rowOf (some-same e) ∙ z) ∙ among-placed l j q f))
+row-once (x ∷ l) (suc i) zero r q d e f z =
+    absurd (d .0 (ap (λ (n : ℕ). among n (rowsOf l)) (ap rowOf (some-same f) ∙ sym z) ∙ among-placed l i r e))
+row-once (x ∷ l) (suc i) (suc j) r q d e f z = row-once l i j r q (d .1) e f z
 
 -- with different rows the test of the row's request decides
 in-use-decides : (len : ℕ) (l : List StunRequestState) (i : ℕ) (r : StunRequestState) → Different (rowsOf l) → getElem? l i ≡ some r → inUse (r .row) len l ≡ eqb (r .len) len

@@ -1,5 +1,6 @@
 -- Demand 3 of one run: its sends and its timeout in closed form, few and spaced.
---     fresh-ok, fit-ok, fresh-never-bad     from fresh no call of a run with steady clocks is refused by 1 or 3
+--     fit-formed, fresh-ok, fit-ok, fresh-never-bad     from fresh no call of a run with steady clocks is refused by 1 or 3
+--     unformed-run                  a world that isn't well formed refuses every call
 --     began-formed                  where a call isn't refused by 1, the agent began well formed
 --     closed-form                   the sends and the timeout of one run
 --     each-run                      what demand 3 says of it
@@ -69,7 +70,7 @@ steady-front (s ∷ ss) rest m h = go (stepClock s) h (steady-front ss rest)
 -- ---- a fresh agent
 
 -- a world that isn't well formed refuses every call
-unformed-run : (rows : ℕ) (w : World) (ts : List Turn) → stateFormed rows w ≡ false → run rows w ts ≡ w
+pub unformed-run : (rows : ℕ) (w : World) (ts : List Turn) → stateFormed rows w ≡ false → run rows w ts ≡ w
 unfolding run
 unformed-run rows w [] e = refl
 unformed-run rows w (t ∷ ts) e =
@@ -78,7 +79,7 @@ unformed-run rows w (t ∷ ts) e =
     rw same (unformed-run rows w ts e)
 
 module _ (rows : ℕ) (s : Start) where
-  fit-formed : Fit rows s → StateFormed rows (begins s)
+  pub fit-formed : Fit rows s → StateFormed rows (begins s)
   fit-formed fit = fresh-formed rows (s .transport) (s .stats) (s .rto) (s .store) (s .peers) (s .counters) (fit .limits) (fit .room)
 
   pub fresh-ok : StateFormed rows (begins s) → Ok rows (s .transport) (s .rto) 0 (begins s)

@@ -9,4 +9,11 @@ pub mod Rests
 pub mod Last
 pub mod Whole
 pub mod Play
+pub mod Counts
+pub mod Conserved
+pub mod Followed
+pub mod Ends
+pub mod Bytes
+pub mod Samples
 mod Examples
+mod Eventful

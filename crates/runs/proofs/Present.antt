@@ -62,7 +62,7 @@ unfolding run
 alone-rest rows x w [] bs h = h
 alone-rest rows x w (t ∷ rs) bs h = alone-rest rows x (said rows w t .world) rs bs (h .1)
 
-found-of : {r : StunRequestState} (f : Found) → requestOf f ≡ some r → (i : ℕ) × (f ≡ At i r)
+pub found-of : {r : StunRequestState} (f : Found) → requestOf f ≡ some r → (i : ℕ) × (f ≡ At i r)
 found-of (At i q) e = (i, ap (At i) (some-same e))
 found-of Nothing e = none-some e
 

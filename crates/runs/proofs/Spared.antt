@@ -1,7 +1,7 @@
 -- What a call does to the request x that it doesn't handle: nothing, unless it is a transmission or a poll; and nothing at all if x isn't
 -- outstanding.
 --     Spared                        x's record stays, and the call neither sends x nor reports it
---     others-spare                  a call that is neither a transmission nor a poll
+--     passed-spares, others-spare   a call that is neither a transmission nor a poll
 --     absent-run                    any run, where x isn't outstanding
 --     Silent                        such a run neither sends x nor reports it, nor is x outstanding after it
 --     ended-other                   a poll that reports another request
@@ -124,7 +124,7 @@ wish-keeps x t l id wish (At i r) e h = go wish h
     go query h = refl
 
 module _ (rows x : ℕ) (w : World) (formed : StateFormed rows w) where
-  passed-spares : (k : Kind) (b : List ℕ) → isScan k ≡ false → refusalOf rows w k b ≡ 0 → handles x w k b ≡ false → Spared rows x w k b
+  pub passed-spares : (k : Kind) (b : List ℕ) → isScan k ≡ false → refusalOf rows w k b ≡ 0 → handles x w k b ≡ false → Spared rows x w k b
   unfolding changeOf
   passed-spares (carries (submits to now)) b n e h =
       let a = request-accepted rows w to now b formed e in
@@ -171,7 +171,7 @@ scan-said rows w s now b e = record { answers = rw (passed-does rows w (scans s 
 
 -- ---- x isn't outstanding
 
-not-found : (f : Found) → requestOf f ≡ none → f ≡ Nothing
+pub not-found : (f : Found) → requestOf f ≡ none → f ≡ Nothing
 not-found (At i r) e = none-some (sym e)
 not-found Nothing e = refl
 

@@ -2,6 +2,7 @@
 --     Ok, ok-said, next-ok      such a world, and the one after a call
 --     scan-passes               no transmission and no poll of a round is refused
 --     run-append                a run in two parts
+--     run-formed, run-agent     what every run keeps, the model's laws
 --     ok-transmits, ok-round, transmits-world, polls-world, round-world      the world after a round or a part of it
 --     Reaches, reaches          the world after the first steps of a run, and the clocks to come
 --     never-append, never-call, never-bad      from such a world no call is refused by 1 or 3
@@ -22,9 +23,10 @@ use Rattle.model.specs.Accepts.{newPeer}
 use Rattle.model.specs.Refusals.{Refusal, STATE, SETTINGS, CLOCK, TOO-LONG, BAD-MESSAGE, WRONG-CLASS, IN-PROGRESS, TABLE-FULL, NO-REQUEST, PEERS-FULL, NO-STATS, COUNTS, numberOf, holds, refusalOf}
 use Rattle.model.specs.Effects.{markAfter, after}
 use Rattle.model.specs.Says.{saysOf}
-use Rattle.model.specs.Runs.{Turn}
+use Rattle.model.specs.Runs.{Turn, left}
 use Rattle.model.proofs.Refused.{refused-exactly, passed-exactly, refused-same, passed-does}
 use Rattle.model.proofs.State.{state-exactly}
+use Rattle.model.proofs.Kept as kept
 use Rattle.model.proofs.Kept.{says-formed, says-agent}
 use Rattle.runs.specs.Run.{kindIn, said, run}
 use Rattle.runs.specs.Round.{transmission, poll, Transmits, none-left, one-more, Polls, told-to-wait, one-report, Round, round, Step, Runs, ends, then-call, then-round}
@@ -98,6 +100,14 @@ pub run-append : (rows : ℕ) (w : World) (rs bs : List Turn) → run rows w (rs
 unfolding run
 run-append rows w [] bs = refl
 run-append rows w (t ∷ rs) bs = run-append rows (said rows w t .world) rs bs
+
+pub run-formed : (rows : ℕ) (ts : List Turn) (w : World) → StateFormed rows w → StateFormed rows (run rows w ts)
+unfolding run left
+run-formed rows ts w f = kept.run-formed rows ts w f
+
+pub run-agent : (rows : ℕ) (ts : List Turn) (w : World) → kept.SameBuild (w .agent) (run rows w ts .agent)
+unfolding run left
+run-agent rows ts w = kept.run-agent rows ts w
 
 pub transmits-world : {rows now : ℕ} {w v : World} {ts : List Turn} → Transmits rows now w ts v → run rows w ts ≡ v
 unfolding run

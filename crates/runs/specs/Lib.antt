@@ -6,4 +6,11 @@ pub mod Demand
 pub mod Last
 pub mod Whole
 pub mod Play
+pub mod Counts
+pub mod Conserved
+pub mod Ends
+pub mod Followed
+pub mod Samples
+pub mod Bytes
 pub mod Examples
+pub mod Eventful

@@ -1,7 +1,6 @@
 -- `is_ready` meets its contract: a law of the test for each return. Assumes nothing.
 use native.Mathlib.Omega.{arith}
 use Rattle.agent.proofs.Ready.{short-table, short-store, crowded, late, unlimited, decided, fails, passes}
-use Rattle.agent.proofs.Ready.{short-table, short-store, crowded, late, unlimited, decided}
 use borrow.Author.Needs.{needs}
 use Rattle.agent.proofs.is_ready.Statement.{statement}
 use Rattle.agent.proofs.is_ready.Tie as tie

@@ -1,6 +1,5 @@
 -- `transmission` meets its contract. Assumes nothing.
 use Rattle.agent.proofs.Ready.{fails, passes, ready-says, few, hands-unready, hands-unused, hands-part}
-use Rattle.agent.proofs.Ready.{ready-says, few, hands-unready, hands-unused, hands-part}
 use borrow.Author.Needs.{needs}
 use Rattle.agent.proofs.transmission.Statement.{statement}
 use Rattle.agent.proofs.transmission.Tie as tie

@@ -1,5 +1,6 @@
 -- What follows of `Performed`, which `call`, `door` and `step` promise, and of `Started`, which `start` promises.
 --     refused-in, short-in, passed-in                    the model's refusals, of a table that may be too short
+--     as-model                                           of a table with all its rows a call is the model's
 --     refused-exactly, short-refused, passed-exactly     which number a call answers, and when it isn't refused
 --     refused-same                                       a refused call changes nothing: agent, table, store, peers and statistics
 --     one-outcome, one-start                             at most one outcome meets the promise
@@ -26,7 +27,7 @@ use Rattle.model.specs.World.{World, StateFormed}
 use Rattle.model.specs.Calls.{Kind, kindOf}
 use Rattle.model.specs.Refusals.{Refusal, STATE, SETTINGS, numberOf, holds, refusalOf}
 use Rattle.model.specs.Fresh.{buildOf}
-use Rattle.model.specs.Says.{Said, numberIn, saysOf}
+use Rattle.model.specs.Says.{Said, numberIn, saysOf, says as modelSays}
 use Rattle.model.specs.declared.StunAgent.{StunAgent}
 use Rattle.model.specs.declared.StunAgentBuilder.{StunAgentBuilder}
 use Rattle.model.specs.declared.Built.{Built}
@@ -132,6 +133,10 @@ module _
   of-said : (Q : Said → Type 0) → Q (saidIn t w (kindOf c) m) → Q (toldOf r t′ store′ peers′ st′)
   of-said Q h = subst Q (sym (p .says)) h
 
+  pub as-model : size ≤ length t → toldOf r t′ store′ peers′ st′ ≡ modelSays 32 w c m
+  as-model h = p .says ∙ said-whole t w (kindOf c) m (le-leb size (length t) h)
+
+  -- Of any table the answer tells the refusal.
   pub numbered : numberIn (r .answer) ≡ refusalIn t w (kindOf c) m
   numbered = of-said (λ s. numberIn (s .answer) ≡ refusalIn t w (kindOf c) m) (said-number t w (kindOf c) m)
 

@@ -382,6 +382,21 @@ def assemble(text):
     return trace
 
 
+def text_of(data):
+    """The text in these bytes; what isn't UTF-8 is a mistake at its place."""
+    try:
+        return data.decode()
+    except UnicodeDecodeError as error:
+        before = data[:error.start]
+        line, column = before.count(b"\n") + 1, error.start - before.rfind(b"\n")
+        raise Mistake(line, column, "text in UTF-8", f"byte 0x{data[error.start]:02x}")
+
+
+def trace_of(data):
+    """The trace in a file that holds it as bytes, which begin with the mark, or as text; raises Mistake."""
+    return data if data.startswith(MARK) else assemble(text_of(data))
+
+
 def show_record(kind, body):
     """One whole record in words, or as `record` where its body isn't what its kind asks for."""
     try:

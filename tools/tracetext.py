@@ -116,6 +116,11 @@ def time(word):
     return value.to_bytes(8, "big")
 
 
+def nanoseconds(word):
+    """The same as a number."""
+    return int.from_bytes(time(word), "big")
+
+
 def show_time(value, none=False):
     """The shortest way to write a time; 2^61 is `none` where a duration stands."""
     if none and value == NONE:

@@ -43,7 +43,7 @@ class TheExamples(unittest.TestCase):
         for name in ("stopped-car", "stopped-car-8ms"):
             records = tracetext.entries(tracetext.assemble((EXAMPLES / f"{name}.trace").read_text()))
             told = [line.split()[2] for line in lines_of(name) if " wait " in line]
-            clocks = [str(int.from_bytes(tracetext.time(record.split()[1]), "big")) for record in records[1:]]
+            clocks = [str(tracetext.nanoseconds(record.split()[1])) for record in records[1:]]
             followed = [clock for clock in told if clock in clocks]
             self.assertEqual(followed, told[:-1] if name == "stopped-car-8ms" else told[:-2])
 

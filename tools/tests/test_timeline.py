@@ -122,7 +122,7 @@ class AnyTrace(Case):
         self.assertIn("Record 1, settings at 0 ns: refused by 2, SETTINGS", picture.texts)
 
     def test_two_agents_have_a_section_and_a_clock_each(self):
-        told = story((SETTINGS, "ok"), (ask("20s", 1), f"send {ID[1]} 20"), ("settings udp stats=off initial=9 max=8 R=34 final=7", "refused 2"),
+        told = story((SETTINGS, "ok"), (ask("20s", 1), f"send {ID[1]} 20"), (SETTINGS.replace("R=7", "R=34"), "refused 2"),
                      (SETTINGS.replace("udp", "tcp"), "ok"), (ask("3ms", 1), f"send {ID[1]} 20"), (answer("4ms", 1), "yes"))
         picture = self.draw(told)
         self.assertEqual([text.split(",")[0] for text in picture.texts if text.startswith("Agent")], ["Agent 1: UDP", "Agent 2: TCP"])
@@ -142,6 +142,11 @@ class AnyTrace(Case):
         picture = self.draw(story((SETTINGS, "ok"), *pairs, (SETTINGS, "ok")))
         self.assertEqual(picture.marks, {"first": 40, "accepted": 40})
         self.assertIn("Only the first 40 lines are drawn, without 960 requests and 1 agents more.", picture.texts)
+
+    def test_more_agents_than_there_is_room_for(self):
+        picture = self.draw(story(*50 * [(SETTINGS, "ok")]))
+        self.assertEqual(picture.texts.count("No request was sent."), 40)
+        self.assertIn("Only the first 40 lines are drawn, without 10 agents more.", picture.texts)
 
     def test_thousands_of_marks_on_one_line(self):
         pairs = [pair for n in range(2000) for pair in ((ask(n, 1), f"send {ID[1]} 20"), (answer(n, 1), "yes"))]
@@ -177,6 +182,18 @@ class AnyTrace(Case):
         two = [(SETTINGS, "ok"), (ask(0, 1), f"send {ID[1]} 20"), (ask(5, 2), f"send {ID[2]} 20"), ("poll 6", "wait 9"), ("poll 7", "wait 9")]
         waits = {name: row.waits for name, row in story(*two, ("poll_transmit 9", f"send {ID[2]} 20")).sections[0].rows.items()}
         self.assertEqual(waits, {ID[1]: {}, ID[2]: {9: 6}})
+
+    def test_a_wait_begins_with_the_last_send_and_has_a_length(self):
+        told = story((SETTINGS, "ok"), (ask(0, 1), f"send {ID[1]} 20"), ("poll 2", "wait 9"), ("poll 3", "wait 9"),
+                     (ask(5, 2), f"send {ID[2]} 20"), ("poll_transmit 9", f"send {ID[2]} 20"), (answer(9, 1), "yes"), ("poll 10", "wait 10"))
+        self.assertEqual([row.waits for row in told.sections[0].rows.values()], [{9: 2}, {9: 5}])
+
+    def test_what_is_still_under_way_is_said(self):
+        begun = [(SETTINGS, "ok"), (ask(0, 1), f"send {ID[1]} 20")]
+        arrow = "l6 5l-6 5"
+        for pairs, still in ((begun, True), (begun + [(answer(9, 1), "yes")], False)):
+            text = timelinesvg.picture(story(*pairs), "A title")
+            self.assertEqual((arrow in text, Picture(self, text).told.endswith("; still under way.")), (still, still))
 
     def test_a_title_may_hold_anything(self):
         picture = Picture(self, timelinesvg.picture(story(), "<a> & \"b\" \x00\udcff " + 30 * "word "))

@@ -1,4 +1,4 @@
-"""What the commands of the test bench share: where the host's programs stand and how they are built."""
+"""What the commands of the test bench share: where programs stand, how they are built and how they are run."""
 import os
 import pathlib
 import shutil
@@ -37,10 +37,20 @@ def port_library():
         sys.exit(f"{done.stdout[-2000:]}\nrt staticlib replay failed")
 
 
-def run_program(words, trace):
-    """The lines of a program that takes a trace on standard input; None where it fails or takes a minute."""
+def run_program(words, trace, seconds=60):
+    """The lines of a program that takes a trace on standard input; None where it fails or takes too long."""
     try:
-        done = subprocess.run(words, input=trace, stdout=subprocess.PIPE, timeout=60)
+        done = subprocess.run(words, input=trace, stdout=subprocess.PIPE, timeout=seconds)
     except subprocess.TimeoutExpired:
         return None
+    except OSError as error:
+        sys.exit(f"{words[0]} can't be started: {error.strerror}")
     return done.stdout.decode(errors="replace") if done.returncode == 0 else None
+
+
+def replayed(file):
+    """The lines of the replay program on a file with a trace; None where it fails. Ends the command without the program."""
+    program = ROOT / "purlanchor"
+    if not program.is_file():
+        sys.exit("./purlanchor isn't here: name another program or file with the answers")
+    return run_program([program, file], b"", seconds=600)  # it may have to be built first

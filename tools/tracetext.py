@@ -116,6 +116,11 @@ def time(word):
     return value.to_bytes(8, "big")
 
 
+def nanoseconds(word):
+    """The same as a number."""
+    return int.from_bytes(time(word), "big")
+
+
 def show_time(value, none=False):
     """The shortest way to write a time; 2^61 is `none` where a duration stands."""
     if none and value == NONE:
@@ -380,6 +385,21 @@ def assemble(text):
             trace += assemble_line(words)
             words.close()
     return trace
+
+
+def text_of(data):
+    """The text in these bytes; what isn't UTF-8 is a mistake at its place."""
+    try:
+        return data.decode()
+    except UnicodeDecodeError as error:
+        before = data[:error.start]
+        line, column = before.count(b"\n") + 1, error.start - before.rfind(b"\n")
+        raise Mistake(line, column, "text in UTF-8", f"byte 0x{data[error.start]:02x}")
+
+
+def trace_of(data):
+    """The trace in a file that holds it as bytes, which begin with the mark, or as text; raises Mistake."""
+    return data if data.startswith(MARK) else assemble(text_of(data))
 
 
 def show_record(kind, body):

@@ -21,20 +21,22 @@ use denote.Laws.{Is, Tells, shows}
 use denote.Memory.{cellAt, partAt, partOf}
 use denote.Struct.Steps.{spelt}
 
-module _ {M : Type 1} (𝓤 : URA M) (H : Heap 𝓤) (A : Atoms 𝓤) (W : Given 𝓤 H A) (R : RattleType) (τ : Ty) (same : (v : Val) (b o : ℕ)
-    → cellAt fullShare (R .mir) (v ∷ []) b o ≡ fat fullShare (rawTy τ) b o v) where
-  pub lays : (x : R .Denot) (v : Val) (b o : ℕ) → ent 𝓤 (sep 𝓤 (H .at fullShare τ b o v) (sem 𝓤 H A (R .own x (v ∷ [])))) (sem 𝓤 H A
-      (partAt R fullShare x b o))
+module _ {M : Type 1} (𝓤 : URA M) (H : Heap 𝓤) (A : Atoms 𝓤) (W : Given 𝓤 H A) (R : RattleType) (τ : Ty)
+    (same : (v : Val) (b o : ℕ) → cellAt fullShare (R .mir) (v ∷ []) b o ≡ fat fullShare (rawTy τ) b o v) where
+  pub lays : (x : R .Denot) (v : Val) (b o : ℕ) → ent 𝓤 (sep 𝓤 (H .at fullShare τ b o v) (sem 𝓤 H A (R .own x (v ∷ []))))
+      (sem 𝓤 H A (partAt R fullShare x b o))
   unfolding partOf
   lays x v b o =
-      qed W (‵ (fat fullShare τ b o v) ∷ ‵ (R .own x (v ∷ [])) ∷ []) ∵ use1 W (‵ (fat fullShare (rawTy τ) b o v))
-      (W .laws .at-raw fullShare τ b o v) $ rewrite ! 0 (λ (P : Fml). ‵ P) (sym (same v b o)) refl $
-      fjoin ! $ fpack ! (List Val) (λ us. fsep (cellAt fullShare (R .mir) us b o) (R .own x us)) (v ∷ []) $ done !
+      qed W (‵ (fat fullShare τ b o v) ∷ ‵ (R .own x (v ∷ [])) ∷ []) ∵
+      use1 W (‵ (fat fullShare (rawTy τ) b o v)) (W .laws .at-raw fullShare τ b o v) $
+      rewrite ! 0 (λ (P : Fml). ‵ P) (sym (same v b o)) refl $ fjoin ! $
+      fpack ! (List Val) (λ us. fsep (cellAt fullShare (R .mir) us b o) (R .own x us)) (v ∷ []) $ done !
 
-  pub lifts : (val : R .Denot → Val) → Tells R (Is R) (λ x. val x ∷ []) → (x : R .Denot) (b o : ℕ) → ent 𝓤 (sem 𝓤 H A
-      (partAt R fullShare x b o)) (sep 𝓤 (H .at fullShare τ b o (val x)) (sem 𝓤 H A (R .own x (val x ∷ []))))
+  pub lifts : (val : R .Denot → Val) → Tells R (Is R) (λ x. val x ∷ []) → (x : R .Denot) (b o : ℕ) → ent 𝓤
+      (sem 𝓤 H A (partAt R fullShare x b o)) (sep 𝓤 (H .at fullShare τ b o (val x)) (sem 𝓤 H A (R .own x (val x ∷ []))))
   unfolding partOf
   lifts val tl x b o =
-      qed W (‵ (partAt R fullShare x b o) ∷ []) ∵ fpick ! (λ vs. fsplit ! $
-      spelt ! R (Is R) (shows 𝓤 H A R) (λ y. val y ∷ []) tl fullShare x vs b o $ rewrite ! 0 (λ (P : Fml). ‵ P) (same (val x) b o) refl $
+      qed W (‵ (partAt R fullShare x b o) ∷ []) ∵
+      fpick ! (λ vs. fsplit ! $ spelt ! R (Is R) (shows 𝓤 H A R) (λ y. val y ∷ []) tl fullShare x vs b o $
+      rewrite ! 0 (λ (P : Fml). ‵ P) (same (val x) b o) refl $
       use1 W (‵ (fat fullShare τ b o (val x))) (W .laws .raw-at fullShare τ b o (val x)) $ done !)

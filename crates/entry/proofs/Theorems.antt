@@ -1,12 +1,13 @@
 -- What follows of `Performed`, which `call`, `door` and `step` promise, and of `Started`, which `start` promises.
---     refused-in, short-in, passed-in    which number a call is refused by, and when none
---     numbered                           the answer tells that number
---     refused-same                       a refused call changes nothing: agent, table, store, peers and statistics
---     one-outcome, one-start             at most one outcome meets the promise
---     stays-formed                       a world that is well formed stays so
---     peers-kept                         the peers change at most at place *count*
---     off-untouched                      while statistics are off, the record isn't touched
---     start-zeroed, start-off, start-refused    the record after a start
+--     refused-in, short-in, passed-in                    the model's refusals, of a table that may be too short
+--     as-model                                           of a table with all its rows a call is the model's
+--     refused-exactly, short-refused, passed-exactly     which number a call answers, and when it isn't refused
+--     refused-same                                       a refused call changes nothing: agent, table, store, peers and statistics
+--     one-outcome, one-start                             at most one outcome meets the promise
+--     stays-formed                                       a world that is well formed stays so
+--     peers-kept                                         the peers change at most at place *count*
+--     off-untouched                                      while statistics are off, the record isn't touched
+--     start-zeroed, start-off, start-refused             the record after a start
 use Prim.Native.Nat.{ℕ, suc, _≤_, _<_}
 use mathlib.Core.Path.{_≡_, refl, sym, ap, subst, _∙_}
 use mathlib.Core.Bool.{Bool, true, false}
@@ -26,7 +27,7 @@ use Rattle.model.specs.World.{World, StateFormed}
 use Rattle.model.specs.Calls.{Kind, kindOf}
 use Rattle.model.specs.Refusals.{Refusal, STATE, SETTINGS, numberOf, holds, refusalOf}
 use Rattle.model.specs.Fresh.{buildOf}
-use Rattle.model.specs.Says.{Said, numberIn, saysOf}
+use Rattle.model.specs.Says.{Said, numberIn, saysOf, says as modelSays}
 use Rattle.model.specs.declared.StunAgent.{StunAgent}
 use Rattle.model.specs.declared.StunAgentBuilder.{StunAgentBuilder}
 use Rattle.model.specs.declared.Built.{Built}
@@ -50,7 +51,6 @@ module _ (t : List ℕ) (w : World) (k : Kind) (m : List ℕ) where
   unfolding refusalIn
   whole-in h = rw (le-leb size (length t) h)
 
-  -- "Given exactly when"; "where several apply, the lowest number is answered".
   pub refused-in : size ≤ length t → (r : Refusal)
       → (refusalIn t w k m ≡ numberOf r) ↔ ((holds 32 w k m r ≡ true) × ((q : Refusal) → numberOf q < numberOf r → holds 32 w k m q ≡ false))
   refused-in h r = rw (whole-in h) (model.refused-exactly 32 w k m r)
@@ -133,8 +133,20 @@ module _
   of-said : (Q : Said → Type 0) → Q (saidIn t w (kindOf c) m) → Q (toldOf r t′ store′ peers′ st′)
   of-said Q h = subst Q (sym (p .says)) h
 
+  pub as-model : size ≤ length t → toldOf r t′ store′ peers′ st′ ≡ modelSays 32 w c m
+  as-model h = p .says ∙ said-whole t w (kindOf c) m (le-leb size (length t) h)
+
+  -- Of any table the answer tells the refusal.
   pub numbered : numberIn (r .answer) ≡ refusalIn t w (kindOf c) m
   numbered = of-said (λ s. numberIn (s .answer) ≡ refusalIn t w (kindOf c) m) (said-number t w (kindOf c) m)
+
+  -- "Given exactly when"; "where several apply, the lowest number is answered".
+  pub refused-exactly : size ≤ length t → (q : Refusal) → (numberIn (r .answer) ≡ numberOf q)
+      ↔ ((holds 32 w (kindOf c) m q ≡ true) × ((l : Refusal) → numberOf l < numberOf q → holds 32 w (kindOf c) m l ≡ false))
+  refused-exactly h q = rw numbered (refused-in t w (kindOf c) m h q)
+
+  pub passed-exactly : (numberIn (r .answer) ≡ 0) ↔ ((size ≤ length t) × ((q : Refusal) → holds 32 w (kindOf c) m q ≡ false))
+  passed-exactly = rw numbered (passed-in t w (kindOf c) m)
 
   -- "A refused call answers its number and leaves state, statistics, store and peers unchanged, the clock mark included."
   pub refused-same : (n : ℕ) → refusalIn t w (kindOf c) m ≡ suc n → Unchanged (suc n) a t store peers st t′ store′ peers′ st′ r
@@ -148,6 +160,10 @@ module _
         peers = ap (λ (s : Said). s .world .peers) z;
         stats = ap (λ (s : Said). s .world .stats) z;
       }
+
+  -- A table that hasn't all its rows is "a state not well formed".
+  pub short-refused : length t < size → Unchanged 1 a t store peers st t′ store′ peers′ st′ r
+  short-refused h = refused-same 0 (short-in t w (kindOf c) m h)
 
   pub one-outcome : (t″ store″ : List ℕ) (peers″ : List Address) (st″ : StunAgentStats) (r″ : Answered)
       → Performed a c m t store peers st t″ store″ peers″ st″ r″ → Alike t′ t″ store′ store″ peers′ peers″ st′ st″ r r″

@@ -119,6 +119,7 @@ pub fn door(
     step_of(r, ps, st)
 }
 
+// `door`, for a caller that keeps what it holds in one piece.
 pub fn step(held: Held, c: Call, message: &[u8], table: &mut [u64], store: &mut [u8]) -> Stepped
     ensures { λ r. ⌜ Performed (held .agent) c (now (message .entry)) (now (table .entry)) (now (store .entry)) (held .peers) (held .stats) (now (table .exit)) (now (store .exit)) (r .held .peers) (r .held .stats) (answeredIn r) ⌝ }
 {

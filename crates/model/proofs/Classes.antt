@@ -1,6 +1,7 @@
 -- The model by the class of a call: which tests each class can fail, in their order, and the effect of one that isn't refused, field by
 -- field. Who cites these need not open the model.
 --     past-submits, .., past-counts    the number that a call in a well-formed state is refused by
+--     passed-formed                    where a call isn't refused, the world is well formed
 --     never-state                      no call in a well-formed world is refused by 1
 --     scan-passes                      the two polls in a well-formed world are refused by their clock alone
 --     Done, done                       what a call that isn't refused answers and leaves
@@ -11,7 +12,7 @@ use mathlib.Core.Path.{_≡_, refl, sym, ap, _∙_}
 use mathlib.Core.Bool.{true, false, cond, not}
 use mathlib.Core.List.{List}
 use mathlib.Core.Option.{Option}
-use borrow.Author.Tests.{le-ltb, not-true}
+use borrow.Author.Tests.{le-ltb, not-true, not-false}
 use Rattle.requests.proofs.Lists.{apart}
 use Rattle.address.specs.declared.Address.{Address}
 use Rattle.message.specs.Head.{key}
@@ -29,7 +30,7 @@ use Rattle.model.specs.Refusals.{badSettings, badClock, tooLong, badMess
 use Rattle.model.specs.Effects.{onFound, keeps, adds, steps, changed, newRequest, answered, reported, wished, changeOf, handedOut, passageAnswer, transmitAnswer, pollAnswer, wishAnswer, meetingAnswer, figureAnswer, answerOf, eventBy, eventOf, storedBy, peersAfter, after, agentAfter}
 use Rattle.model.specs.Says.{Said, saysOf}
 use Rattle.model.specs.declared.Answer.the-variants as answer
-use Rattle.model.proofs.Refused.{refused-exactly, past-state, passed-does}
+use Rattle.model.proofs.Refused.{refused-exactly, passed-exactly, past-state, passed-does}
 use Rattle.model.proofs.State.{state-exactly}
 
 -- ---- refusals behind the test of the state
@@ -79,6 +80,9 @@ module _ (rows : ℕ) (w : World) (m : List ℕ) where
       ≡ cond (noStats w (counts f)) 11 (cond (badCounts w (counts f)) 12 0)
   unfolding refusalPast newPeer
   past-counts f = refl
+
+pub passed-formed : (rows : ℕ) (w : World) (k : Kind) (m : List ℕ) → refusalOf rows w k m ≡ 0 → StateFormed rows w
+passed-formed rows w k m e = state-exactly rows w .0 (not-false (stateFormed rows w) (passed-exactly rows w k m .0 e STATE))
 
 pub never-state : (rows : ℕ) (w : World) (k : Kind) (m : List ℕ) → StateFormed rows w → refusalOf rows w k m ≡ numberOf STATE → ⊥
 never-state rows w k m formed e =

@@ -1,7 +1,7 @@
 -- An address as the walks use it: its row, its one machine value, and the laws that a walk cites.
 --     R, val       the row, and a value's machine value.        IsA      the relation, which is a plain fact
---     typed        the machine value has the MIR type of a local.        made     what an address owns, for nothing.        copied     an
--- address is Copy
+--     typed        the machine value has the MIR type of a local
+--     made         what an address owns, for nothing.        copied     an address is Copy
 --     place-at     where element i lies: what the MIR's `mul` and `offset` make of the pointer and i.        fits       that product fits
 use mathlib.Core.Path.{_≡_, sym}
 use Prim.Native.Nat.{ℕ, _+_, _*_, _<_, _^_}

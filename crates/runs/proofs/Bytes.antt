@@ -28,6 +28,7 @@ use Rattle.model.specs.Says.{Said, numberIn, saysOf}
 use Rattle.model.specs.Parts.{transmissionOf}
 use Rattle.model.specs.Runs.{Turn}
 use Rattle.model.specs.declared.Answer.the-variants as answer
+use Rattle.model.proofs.Classes.{passed-formed}
 use Rattle.model.proofs.Refused.{refused-same}
 use Rattle.model.proofs.State.{state-exactly}
 use Rattle.model.proofs.Below.{submission}
@@ -44,9 +45,8 @@ use Rattle.runs.proofs.Steady.{run-formed}
 use Rattle.runs.proofs.Spared.{scan-said}
 use Rattle.runs.proofs.Present.{found-of}
 use Rattle.runs.proofs.Demand.{unformed-run}
-use Rattle.runs.proofs.Counts.{passed-formed}
-use Rattle.runs.proofs.Followed.{traced, handedBy, handed}
-use Rattle.runs.proofs.Ends.{moves}
+use Rattle.runs.proofs.Followed.{stands-at, traced, handedBy, handed}
+use Rattle.runs.proofs.Ends.{stays-call}
 
 -- Where the request x stands, and its message.
 record Holds (rows x : ℕ) (to : Address) (m : List ℕ) (w : World) : Type 0 where
@@ -58,11 +58,11 @@ record Holds (rows x : ℕ) (to : Address) (m : List ℕ) (w : World) : Type 0 w
   part : transmissionOf rows w (request .row) (request .len) ≡ m
 
 -- No part of another length.
-none-else : (rows x : ℕ) (w : World) → StateFormed rows w → (i : ℕ) (r : StunRequestState) (len : ℕ) → lookup x (w .requests) ≡ At i r → (r .len ≡ len → ⊥)
-    → transmissionOf rows w (r .row) len ≡ []
+none-else : (rows x : ℕ) (w : World) → StateFormed rows w → (i : ℕ) (r : StunRequestState) (len : ℕ) → lookup x (w .requests) ≡ At i r
+    → (r .len ≡ len → ⊥) → transmissionOf rows w (r .row) len ≡ []
 none-else rows x w formed i r len e n =
-    part-unused rows w (r .row) len
-    (is-false (inUse (r .row) len (w .requests)) (λ u. n (in-use-exactly len (w .requests) i r (formed .requests .apart) (found-at x i r (w .requests) e .placed) .0 u)))
+    let u = in-use-exactly len (w .requests) i r (formed .requests .apart) (found-at x i r (w .requests) e .placed) in
+    part-unused rows w (r .row) len (is-false (inUse (r .row) len (w .requests)) (λ h. n (u .0 h)))
 
 -- ---- a call after the acceptance
 
@@ -116,7 +116,7 @@ module _ (rows x : ℕ) (to : Address) (m : List ℕ) (w : World) (h : Holds row
 
   holds-after : (k : Kind) → endBy x k b (saysOf rows w k b .answer) ≡ none → Holds rows x to m (saysOf rows w k b .world)
   holds-after k n =
-      let q = moves rows x w b k .stays (h .request) (ap requestOf (h .stands)) n in
+      let q = stays-call rows x w k b (h .request) (ap requestOf (h .stands)) n in
       let f = found-of (lookup x (saysOf rows w k b .world .requests)) (q .1) in
       let p = part-after k (f .0) (q .0) (f .1) in
       record {
@@ -167,7 +167,7 @@ module _ (rows x : ℕ) (w : World) (q : Submission) (taken : submitsIt x (excha
           formed = says-formed rows w (carries (submits (q .to) (q .now))) (q .bytes) formed;
           place = placeOf (key (y .«transaction_id»)) (w .requests);
           request = a .request;
-          stands = ap (λ (n : ℕ). lookup n (turned .world .requests)) (sym is-x) ∙ a .stands;
+          stands = stands-at rows x w (q .to) (q .now) (q .bytes) turned a is-x;
           address = to-is;
           part = ap (λ (n : ℕ). transmissionOf rows (turned .world) n (a .request .len)) row-is
               ∙ ap (λ (n : ℕ). transmissionOf rows (turned .world) (a .row) n) len-is ∙ a .bytes;
@@ -183,7 +183,8 @@ module _ (rows x : ℕ) (w : World) (q : Submission) (taken : submitsIt x (excha
         same : (i : ℕ) (r : StunRequestState) → lookup x (turned .world .requests) ≡ At i r → r ≡ holds .request
         same i r e = let z : At i r ≡ At (holds .place) (holds .request) = sym e ∙ holds .stands in cc
 
-        first : (id : TransactionId) (to : Address) (row len : ℕ) → answer.Send (a .message .«transaction_id») (q .to) (a .row) (length (q .bytes)) ≡ answer.Send id to row len
+        first : (id : TransactionId) (to : Address) (row len : ℕ)
+            → answer.Send (a .message .«transaction_id») (q .to) (a .row) (length (q .bytes)) ≡ answer.Send id to row len
             → (to ≡ q .to) × (transmissionOf rows (turned .world) row len ≡ q .bytes)
         first id to row len e =
             let t : q .to ≡ to = cc in

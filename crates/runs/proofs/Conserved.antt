@@ -42,7 +42,7 @@ use Rattle.model.specs.declared.Call.the-variants as call
 use Rattle.model.specs.declared.Answer.the-variants as answer
 use Rattle.model.proofs.Refused.{passed-exactly, past-state, refused-same}
 use Rattle.model.proofs.State.{state-exactly}
-use Rattle.model.proofs.Classes.{past-counts, done, change-sends, change-receives, change-transmits, change-reports, change-names, change-meets, change-counts, answer-sends, answer-receives, answer-reports, answer-counts}
+use Rattle.model.proofs.Classes.{passed-formed, past-counts, done, change-sends, change-receives, change-transmits, change-reports, change-names, change-meets, change-counts, answer-sends, answer-receives, answer-reports, answer-counts}
 use Rattle.model.proofs.Received.{response-found}
 use Rattle.model.proofs.Store.{request-accepted}
 use Rattle.runs.specs.Run.{kindIn, said, run}
@@ -51,7 +51,7 @@ use Rattle.runs.specs.Counts.{Exchange, seen, history, requestsSent, res
 use Rattle.runs.specs.Conserved.{Balanced, BelowStop, Conserved}
 use Rattle.runs.proofs.Steady.{run-formed, run-agent}
 use Rattle.runs.proofs.Demand.{fit-formed}
-use Rattle.runs.proofs.Counts.{Amounts, passed-formed, refused-tallied, counters-are}
+use Rattle.runs.proofs.Counts.{Amounts, refused-tallied, counters-are}
 
 -- The requests that a call settles, and what a call has to keep, where the list of requests was l and is l′.
 abbrev settles : Exchange → ℕ
@@ -62,12 +62,14 @@ Keeps e l l′ = requestsSent e + length l ≡ settles e + length l′
 
 module _ (from : Address) (clock : Option ℕ) (m : List ℕ) (t : Transport) (l : List StunRequestState) where
   received-keeps : (p : Parsed) → messageOf m ≡ p
-      → Keeps (seen (carries (receives from clock)) m (onMessage p answer.No (λ x. yesOrNo (accepts l from x)))) l (changed t (onMessage p keeps (answered l from)) l)
+      → Keeps (seen (carries (receives from clock)) m (onMessage p answer.No (λ x. yesOrNo (accepts l from x)))) l
+      (changed t (onMessage p keeps (answered l from)) l)
   received-keeps Bad e = refl
   received-keeps (Good x) e = go (accepts l from x) refl (isResponse (x .class)) refl
     where
       go : (a : Bool) → accepts l from x ≡ a → (b : Bool) → isResponse (x .class) ≡ b
-          → Keeps (seen (carries (receives from clock)) m (yesOrNo a)) l (changed t (cond a (cond b (taken (lookup (key (x .«transaction_id»)) l)) keeps) keeps) l)
+          → Keeps (seen (carries (receives from clock)) m (yesOrNo a)) l
+          (changed t (cond a (cond b (taken (lookup (key (x .«transaction_id»)) l)) keeps) keeps) l)
       go false y b r = refl
       go true y false r = rw (e, r)
       go true y true r =
@@ -88,13 +90,16 @@ wish-length t l (configure rto) (At i r) = length-set l i (configured rto r)
 wish-length t l query (At i r) = refl
 
 module _ (rows : ℕ) (w : World) (m : List ℕ) where
-  passed-keeps : (k : Kind) → refusalOf rows w k m ≡ 0 → Keeps (seen k m (saysOf rows w k m .answer)) (w .requests) (saysOf rows w k m .world .requests)
+  passed-keeps : (k : Kind) → refusalOf rows w k m ≡ 0
+      → Keeps (seen k m (saysOf rows w k m .answer)) (w .requests) (saysOf rows w k m .world .requests)
   passed-keeps (carries (submits to now)) e =
       let a = request-accepted rows w to now m (passed-formed rows w (carries (submits to now)) m e) e in
-      rw (a .answers, a .reads, a .class-is, a .requests) (omega (arith, length-insertAt (w .requests) (placeOf (keyOf (a .request)) (w .requests)) (a .request)))
+      rw (a .answers, a .reads, a .class-is, a .requests)
+      (omega (arith, length-insertAt (w .requests) (placeOf (keyOf (a .request)) (w .requests)) (a .request)))
   passed-keeps (carries (sends to)) e =
       let d = done rows w (carries (sends to)) m e in
-      rw (d .requests, d .answer, answer-sends rows w m to, change-sends rows w m to) (go (messageOf m) (passed-exactly rows w (carries (sends to)) m .0 e WRONG-CLASS))
+      rw (d .requests, d .answer, answer-sends rows w m to, change-sends rows w m to)
+      (go (messageOf m) (passed-exactly rows w (carries (sends to)) m .0 e WRONG-CLASS))
     where
       go : (p : Parsed) → onMessage p false (λ x. isRequest (x .class)) ≡ false
           → cond (onMessage p false (λ x. isRequest (x .class))) 1 0 + length (w .requests) ≡ 0 + length (w .requests)
@@ -104,7 +109,8 @@ module _ (rows : ℕ) (w : World) (m : List ℕ) where
       rw (d .requests, d .answer, answer-receives rows w m from clock, change-receives rows w m from clock)
       (received-keeps from clock m (w .agent .transport) (w .requests) (messageOf m) refl)
   passed-keeps (scans transmits now) e =
-      rw (done rows w (scans transmits now) m e .requests, change-transmits rows w m now) (omega (arith, walk-length (w .agent .transport) now (w .requests)))
+      rw (done rows w (scans transmits now) m e .requests, change-transmits rows w m now)
+      (omega (arith, walk-length (w .agent .transport) now (w .requests)))
   passed-keeps (scans reports now) e =
       let d = done rows w (scans reports now) m e in
       let t = w .agent .transport in
@@ -119,7 +125,12 @@ module _ (rows : ℕ) (w : World) (m : List ℕ) where
   refused-keeps : (n : ℕ) (k : Kind) → Keeps (seen k m (answer.Refused (suc n))) (w .requests) (w .requests)
   refused-keeps n k =
       let z = refused-tallied n m k in
-      rw (← ap (λ (a : Amounts). a .requestsSent) z, ← ap (λ (a : Amounts). a .responsesReceived) z, ← ap (λ (a : Amounts). a .timedOut) z, ← ap (λ (a : Amounts). a .cancelled) z)
+      rw (
+        ← ap (λ (a : Amounts). a .requestsSent) z,
+        ← ap (λ (a : Amounts). a .responsesReceived) z,
+        ← ap (λ (a : Amounts). a .timedOut) z,
+        ← ap (λ (a : Amounts). a .cancelled) z,
+      )
 
   keeps-call : (k : Kind) → Keeps (seen k m (saysOf rows w k m .answer)) (w .requests) (saysOf rows w k m .world .requests)
   keeps-call k = go (refusalOf rows w k m) refl
@@ -132,7 +143,8 @@ module _ (rows : ℕ) (w : World) (m : List ℕ) where
 
 balanced-from : (rows : ℕ) (ts : List Turn) (w : World)
     → total requestsSent (history rows w ts) + length (w .requests)
-    ≡ total responsesReceived (history rows w ts) + total timedOut (history rows w ts) + total cancelled (history rows w ts) + length (run rows w ts .requests)
+    ≡ total responsesReceived (history rows w ts) + total timedOut (history rows w ts) + total cancelled (history rows w ts)
+    + length (run rows w ts .requests)
 unfolding history run
 balanced-from rows [] w = refl
 balanced-from rows (t ∷ ts) w =
@@ -156,9 +168,11 @@ module _ (rows : ℕ) (s : Start) (ts : List Turn) (on : s .stats ≡ true) (kep
       → said rows (run rows (begins s) ts) (with call.OutstandingRequests m) .answer ≡ answer.Outstanding (length (run rows (begins s) ts .requests))
   outstanding-answered m fit =
       let w = run rows (begins s) ts in
-      let o : outstandingOf (w .stats) ≡ Count (length (w .requests)) = sym (not-below-zero (w .stats) (length (w .requests)) (omega (arith, conserved))) in
+      let o : outstandingOf (w .stats) ≡ Count (length (w .requests)) =
+      sym (not-below-zero (w .stats) (length (w .requests)) (omega (arith, conserved))) in
       let a = run-agent rows ts (begins s) in
       let passes : refusalOf rows w (counts unsettled) m ≡ 0 =
       past-state rows w (counts unsettled) m (state-exactly rows w .1 (run-formed rows ts (begins s) (fit-formed rows s fit)))
       ∙ past-counts rows w m unsettled ∙ rw (a .stats ∙ on, o) in
-      done rows w (counts unsettled) m passes .answer ∙ answer-counts rows w m unsettled ∙ ap (λ (n : Outstanding). answer.Outstanding (outstandingCount n)) o
+      done rows w (counts unsettled) m passes .answer ∙ answer-counts rows w m unsettled
+      ∙ ap (λ (n : Outstanding). answer.Outstanding (outstandingCount n)) o

@@ -1,16 +1,17 @@
 -- The ten counters over a run are counts and sums over its calls and answers.
 --     counters-are     from a fresh agent with statistics on, without a reset
 --     counters-since   from any world with the record zeroed
+--     history-answers  the answers of a run's history are the run's
 --     tallied          one call that isn't refused: its event adds to each counter what the call and its answer say
 use Prim.Native.Nat.{ℕ, zero, suc, _+_}
 use mathlib.Core.Path.{_≡_, refl, sym, ap, _∙_}
 use mathlib.Core.Bool.{Bool, true, false, cond, _||_}
-use mathlib.Core.List.{List, [], _∷_}
+use mathlib.Core.List.{List, [], _∷_, map}
 use native.Mathlib.Omega.{arith}
 use native.Mathlib.Nat.{add-zero, zero-add, add-assoc}
 use mathlib.Core.Option.{Option}
 use lib.ListN.{length}
-use borrow.Author.Tests.{ne-eqb, not-false}
+use borrow.Author.Tests.{ne-eqb}
 use Rattle.address.specs.declared.Address.{Address}
 use Rattle.message.specs.Head.{key}
 use Rattle.message.specs.Attributes.{messageOf}
@@ -33,24 +34,30 @@ use Rattle.requests.specs.declared.Transmitted.the-variants.{Sends, Quiet}
 use Rattle.requests.specs.declared.Polled.{Polled}
 use Rattle.requests.specs.declared.Polled.the-variants.{TimedOut, Cancelled, WaitUntil}
 use Rattle.requests.proofs.Lists.{apart, neither}
-use Rattle.model.specs.World.{World, StateFormed, stateFormed}
+use Rattle.model.specs.World.{World}
 use Rattle.model.specs.Calls.{submits, sends, receives, transmits, reports, numbers, mean, unsettled, anew, Kind, carries, scans, names, meets, counts}
 use Rattle.model.specs.Accepts.{onMessage, accepts}
-use Rattle.model.specs.Refusals.{STATE, BAD-MESSAGE, WRONG-CLASS, isRequest, refusalOf}
+use Rattle.model.specs.Refusals.{BAD-MESSAGE, WRONG-CLASS, isRequest, refusalOf}
 use Rattle.model.specs.Effects.{transmitAnswer, pollAnswer, yesOrNo, sentAs, receivedAs, rttAt, transmitEvent, pollEvent, eventBy}
 use Rattle.model.specs.Says.{Said, saysOf}
 use Rattle.model.specs.Fresh.{freshEvent}
-use Rattle.model.specs.Runs.{Turn}
+use Rattle.model.specs.Runs.{Turn, answers}
+use Rattle.model.specs.declared.Answer.{Answer}
 use Rattle.model.specs.declared.Answer.the-variants as answer
 use Rattle.model.proofs.Refused.{passed-exactly, refused-same}
-use Rattle.model.proofs.State.{state-exactly}
-use Rattle.model.proofs.Classes.{done, event-on, answer-sends, answer-receives, answer-transmits, answer-reports}
+use Rattle.model.proofs.Classes.{passed-formed, done, event-on, answer-sends, answer-receives, answer-transmits, answer-reports}
 use Rattle.model.proofs.Statistics.{counts-event}
 use Rattle.model.proofs.Kept.{says-agent}
 use Rattle.model.proofs.Store.{request-accepted}
 use Rattle.runs.specs.Run.{kindIn, said, run}
 use Rattle.runs.specs.Demand.{Start, begins}
 use Rattle.runs.specs.Counts.{Exchange, seen, exchange, history, requestsSent, requestsReceived, responsesSent, responsesReceived, indicationsSent, indicationsReceived, timedOut, cancelled, bytesSent, bytesReceived, total, stopped, Counters, resets, NoReset}
+
+-- The answers of a run's history are the run's.
+pub history-answers : (rows : ℕ) (ts : List Turn) (w : World) → map (λ e. e .answer) (history rows w ts) ≡ answers rows w ts
+unfolding history answers
+history-answers rows [] w = refl
+history-answers rows (t ∷ ts) w = ap (λ (l : List Answer). said rows w t .answer ∷ l) (history-answers rows ts (said rows w t .world))
 
 -- What a move adds, and the ten counters side by side.
 abbrev pub amount : Move → ℕ
@@ -104,7 +111,8 @@ module _ (to : Address) (m : List ℕ) (x : Message) (reads : messageOf m ≡ Go
   sent-tallied : isRequest (x .class) ≡ false → amountsOf (sentAs (length m) (x .class)) ≡ amountsIn (seen (carries (sends to)) m answer.Ok)
   sent-tallied other = go (x .class) refl other
     where
-      go : (c : MessageClass) → x .class ≡ c → isRequest c ≡ false → amountsOf (sentAs (length m) (x .class)) ≡ amountsIn (seen (carries (sends to)) m answer.Ok)
+      go : (c : MessageClass) → x .class ≡ c → isRequest c ≡ false
+          → amountsOf (sentAs (length m) (x .class)) ≡ amountsIn (seen (carries (sends to)) m answer.Ok)
       go Request e n = apart n
       go Indication e n = rw (reads, e, add-zero)
       go Success e n = rw (reads, e, add-zero)
@@ -129,7 +137,8 @@ module _ (from : Address) (clock : Option ℕ) (m : List ℕ) where
   heard-tallied rtt takes Bad e = refl
   heard-tallied rtt takes (Good x) e = go (takes x)
     where
-      go : (b : Bool) → amountsOf (cond b (receivedAs (length m) (rtt x) (x .class)) event.Nothing) ≡ amountsIn (seen (carries (receives from clock)) m (yesOrNo b))
+      go : (b : Bool)
+          → amountsOf (cond b (receivedAs (length m) (rtt x) (x .class)) event.Nothing) ≡ amountsIn (seen (carries (receives from clock)) m (yesOrNo b))
       go true = received-tallied (rtt x) x e
       go false = refl
 
@@ -141,10 +150,6 @@ poll-tallied : (now : ℕ) (m : List ℕ) (o : Polled) → amountsOf (pollEvent 
 poll-tallied now m (TimedOut i id) = refl
 poll-tallied now m (Cancelled i id) = refl
 poll-tallied now m (WaitUntil clock) = refl
-
--- Where a call isn't refused, the world is well formed.
-pub passed-formed : (rows : ℕ) (w : World) (k : Kind) (m : List ℕ) → refusalOf rows w k m ≡ 0 → StateFormed rows w
-passed-formed rows w k m e = state-exactly rows w .0 (not-false (stateFormed rows w) (passed-exactly rows w k m .0 e STATE))
 
 module _ (rows : ℕ) (w : World) (m : List ℕ) where
   tallied : (k : Kind) → resets k ≡ false → refusalOf rows w k m ≡ 0
@@ -162,11 +167,13 @@ module _ (rows : ℕ) (w : World) (m : List ℕ) where
       go (Good x) e b c = sent-tallied to m x e c
   tallied (carries (receives from clock)) kept e =
       rw (done rows w (carries (receives from clock)) m e .answer, answer-receives rows w m from clock)
-      (heard-tallied from clock m (λ x. rttAt clock (lookup (key (x .«transaction_id»)) (w .requests))) (λ x. accepts (w .requests) from x) (messageOf m) refl)
+      (heard-tallied from clock m (λ x. rttAt clock (lookup (key (x .«transaction_id»)) (w .requests))) (accepts (w .requests) from) (messageOf m) refl)
   tallied (scans transmits now) kept e =
-      rw (done rows w (scans transmits now) m e .answer, answer-transmits rows w m now) (transmit-tallied now m (walk (w .agent .transport) now (w .requests) .out))
+      rw (done rows w (scans transmits now) m e .answer, answer-transmits rows w m now)
+      (transmit-tallied now m (walk (w .agent .transport) now (w .requests) .out))
   tallied (scans reports now) kept e =
-      rw (done rows w (scans reports now) m e .answer, answer-reports rows w m now) (poll-tallied now m (pollAll (w .agent .transport) now (w .requests)))
+      rw (done rows w (scans reports now) m e .answer, answer-reports rows w m now)
+      (poll-tallied now m (pollAll (w .agent .transport) now (w .requests)))
   tallied (names id wish) kept e = refl
   tallied (meets a x) kept e = refl
   tallied (counts numbers) kept e = refl
@@ -294,9 +301,10 @@ module _ (get : StunAgentStats → ℕ) (moves : Moves → Move) (part : Amounts
   grows [] w n on kept h = rw add-zero h
   grows (t ∷ ts) w n on kept h =
       let c = counts-call rows w (kindIn t) (t .bytes) on (kept .0) in
+      let more = part (amountsIn (exchange rows w t)) in
       let one = ap get (c .stats) ∙ grows-by n (c .event) (w .stats) (exchange rows w t) (c .kept) (c .adds) h in
-      let rest = grows ts (said rows w t .world) (n + part (amountsIn (exchange rows w t))) (says-agent rows w (kindIn t) (t .bytes) .stats ∙ on) (kept .1) one in
-      rest ∙ ap stopped (add-assoc n (part (amountsIn (exchange rows w t))) (total (λ e. part (amountsIn e)) (history rows (said rows w t .world) ts)))
+      grows ts (said rows w t .world) (n + more) (says-agent rows w (kindIn t) (t .bytes) .stats ∙ on) (kept .1) one
+      ∙ ap stopped (add-assoc n more (total (λ e. part (amountsIn e)) (history rows (said rows w t .world) ts)))
 
   from-zero : (ts : List Turn) (w : World) → w .agent .stats ≡ true → NoReset ts → get (w .stats) ≡ 0
       → get (run rows w ts .stats) ≡ stopped (total (λ e. part (amountsIn e)) (history rows w ts))
@@ -311,7 +319,8 @@ anyFresh m =
     || (isFresh (m .responsesSent)
     || (isFresh (m .responsesReceived)
     || (isFresh (m .indicationsSent)
-    || (isFresh (m .indicationsReceived) || (isFresh (m .timedOut) || (isFresh (m .cancelled) || (isFresh (m .bytesSent) || isFresh (m .bytesReceived)))))))))
+    || (isFresh (m .indicationsReceived)
+    || (isFresh (m .timedOut) || (isFresh (m .cancelled) || (isFresh (m .bytesSent) || isFresh (m .bytesReceived)))))))))
 
 none-fresh : (v : Event) → isReset v ≡ false → anyFresh (movesOf v) ≡ false
 none-fresh event.Nothing e = refl
@@ -367,41 +376,47 @@ pub begins-zeroed : (s : Start) → s .stats ≡ true → begins s .stats ≡ ze
 begins-zeroed s on = ap (λ (b : Bool). counted (freshEvent b) (s .counters)) on ∙ sym (reset (s .counters))
 
 -- From any world with the record zeroed, so after a reset too.
-pub counters-since : (rows : ℕ) (w : World) (ts : List Turn) → w .agent .stats ≡ true → w .stats ≡ zeroed → NoReset ts
-    → Counters (history rows w ts) (run rows w ts .stats)
-counters-since rows w ts on zero-is kept =
-    record {
-      requests-sent =
-          from-zero (λ s. s .«requests_sent») (λ m. m .requestsSent) (λ a. a .requestsSent) (λ v s. counters-moved v s .requestsSent) (λ v e. steady v e .requestsSent) (λ v. refl) rows ts w
-          on kept (ap (λ (x : StunAgentStats). x .«requests_sent») zero-is);
-      requests-received =
-          from-zero (λ s. s .«requests_received») (λ m. m .requestsReceived) (λ a. a .requestsReceived) (λ v s. counters-moved v s .requestsReceived) (λ v e. steady v e .requestsReceived) (λ v. refl) rows ts w
-          on kept (ap (λ (x : StunAgentStats). x .«requests_received») zero-is);
-      responses-sent =
-          from-zero (λ s. s .«responses_sent») (λ m. m .responsesSent) (λ a. a .responsesSent) (λ v s. counters-moved v s .responsesSent) (λ v e. steady v e .responsesSent) (λ v. refl) rows ts w
-          on kept (ap (λ (x : StunAgentStats). x .«responses_sent») zero-is);
-      responses-received =
-          from-zero (λ s. s .«responses_received») (λ m. m .responsesReceived) (λ a. a .responsesReceived) (λ v s. counters-moved v s .responsesReceived) (λ v e. steady v e .responsesReceived) (λ v. refl) rows ts w
-          on kept (ap (λ (x : StunAgentStats). x .«responses_received») zero-is);
-      indications-sent =
-          from-zero (λ s. s .«indications_sent») (λ m. m .indicationsSent) (λ a. a .indicationsSent) (λ v s. counters-moved v s .indicationsSent) (λ v e. steady v e .indicationsSent) (λ v. refl) rows ts w
-          on kept (ap (λ (x : StunAgentStats). x .«indications_sent») zero-is);
-      indications-received =
-          from-zero (λ s. s .«indications_received») (λ m. m .indicationsReceived) (λ a. a .indicationsReceived) (λ v s. counters-moved v s .indicationsReceived) (λ v e. steady v e .indicationsReceived) (λ v. refl) rows ts w
-          on kept (ap (λ (x : StunAgentStats). x .«indications_received») zero-is);
-      transactions-timed-out =
-          from-zero (λ s. s .«transactions_timed_out») (λ m. m .timedOut) (λ a. a .timedOut) (λ v s. counters-moved v s .timedOut) (λ v e. steady v e .timedOut) (λ v. refl) rows ts w
-          on kept (ap (λ (x : StunAgentStats). x .«transactions_timed_out») zero-is);
-      transactions-cancelled =
-          from-zero (λ s. s .«transactions_cancelled») (λ m. m .cancelled) (λ a. a .cancelled) (λ v s. counters-moved v s .cancelled) (λ v e. steady v e .cancelled) (λ v. refl) rows ts w
-          on kept (ap (λ (x : StunAgentStats). x .«transactions_cancelled») zero-is);
-      bytes-sent =
-          from-zero (λ s. s .«bytes_sent») (λ m. m .bytesSent) (λ a. a .bytesSent) (λ v s. counters-moved v s .bytesSent) (λ v e. steady v e .bytesSent) (λ v. refl) rows ts w
-          on kept (ap (λ (x : StunAgentStats). x .«bytes_sent») zero-is);
-      bytes-received =
-          from-zero (λ s. s .«bytes_received») (λ m. m .bytesReceived) (λ a. a .bytesReceived) (λ v s. counters-moved v s .bytesReceived) (λ v e. steady v e .bytesReceived) (λ v. refl) rows ts w
-          on kept (ap (λ (x : StunAgentStats). x .«bytes_received») zero-is);
-    }
+module _ (rows : ℕ) (w : World) (ts : List Turn) (on : w .agent .stats ≡ true) (zero-is : w .stats ≡ zeroed) (kept : NoReset ts) where
+  sum-is : (get : StunAgentStats → ℕ) (moves : Moves → Move) (part : Amounts → ℕ) → get zeroed ≡ 0
+      → ((v : Event) (s : StunAgentStats) → get (counted v s) ≡ moved (moves (movesOf v)) (get s))
+      → ((v : Event) → isReset v ≡ false → isFresh (moves (movesOf v)) ≡ false)
+      → ((v : Event) → part (amountsOf v) ≡ amount (moves (movesOf v)))
+      → get (run rows w ts .stats) ≡ stopped (total (λ e. part (amountsIn e)) (history rows w ts))
+  sum-is get moves part z a b c = from-zero get moves part a b c rows ts w on kept (ap get zero-is ∙ z)
+
+  pub counters-since : Counters (history rows w ts) (run rows w ts .stats)
+  counters-since = record {
+    requests-sent =
+        sum-is (λ s. s .«requests_sent») (λ m. m .requestsSent) (λ a. a .requestsSent) refl
+        (λ v s. counters-moved v s .requestsSent) (λ v e. steady v e .requestsSent) (λ v. refl);
+    requests-received =
+        sum-is (λ s. s .«requests_received») (λ m. m .requestsReceived) (λ a. a .requestsReceived) refl
+        (λ v s. counters-moved v s .requestsReceived) (λ v e. steady v e .requestsReceived) (λ v. refl);
+    responses-sent =
+        sum-is (λ s. s .«responses_sent») (λ m. m .responsesSent) (λ a. a .responsesSent) refl
+        (λ v s. counters-moved v s .responsesSent) (λ v e. steady v e .responsesSent) (λ v. refl);
+    responses-received =
+        sum-is (λ s. s .«responses_received») (λ m. m .responsesReceived) (λ a. a .responsesReceived) refl
+        (λ v s. counters-moved v s .responsesReceived) (λ v e. steady v e .responsesReceived) (λ v. refl);
+    indications-sent =
+        sum-is (λ s. s .«indications_sent») (λ m. m .indicationsSent) (λ a. a .indicationsSent) refl
+        (λ v s. counters-moved v s .indicationsSent) (λ v e. steady v e .indicationsSent) (λ v. refl);
+    indications-received =
+        sum-is (λ s. s .«indications_received») (λ m. m .indicationsReceived) (λ a. a .indicationsReceived) refl
+        (λ v s. counters-moved v s .indicationsReceived) (λ v e. steady v e .indicationsReceived) (λ v. refl);
+    transactions-timed-out =
+        sum-is (λ s. s .«transactions_timed_out») (λ m. m .timedOut) (λ a. a .timedOut) refl
+        (λ v s. counters-moved v s .timedOut) (λ v e. steady v e .timedOut) (λ v. refl);
+    transactions-cancelled =
+        sum-is (λ s. s .«transactions_cancelled») (λ m. m .cancelled) (λ a. a .cancelled) refl
+        (λ v s. counters-moved v s .cancelled) (λ v e. steady v e .cancelled) (λ v. refl);
+    bytes-sent =
+        sum-is (λ s. s .«bytes_sent») (λ m. m .bytesSent) (λ a. a .bytesSent) refl
+        (λ v s. counters-moved v s .bytesSent) (λ v e. steady v e .bytesSent) (λ v. refl);
+    bytes-received =
+        sum-is (λ s. s .«bytes_received») (λ m. m .bytesReceived) (λ a. a .bytesReceived) refl
+        (λ v s. counters-moved v s .bytesReceived) (λ v e. steady v e .bytesReceived) (λ v. refl);
+  }
 
 pub counters-are : (rows : ℕ) (s : Start) (ts : List Turn) → s .stats ≡ true → NoReset ts
     → Counters (history rows (begins s) ts) (run rows (begins s) ts .stats)

@@ -1,9 +1,10 @@
 -- The life of a request in a run: accepted, then ended once or still in the table, and nothing of it sent after its end.
---     moves             what one call makes of the request x
+--     submits-other     what `send_request` of another request makes of the request x
+--     stays-call        a call that doesn't end the request x leaves it in the table
 --     lives             a run as x has it
 --     fate              each accepted request is answered, reported timed out, reported cancelled or still in the table
 --     ends-counted      as numbers
-use Prim.Native.Nat.{ℕ, zero, suc, _+_}
+use Prim.Native.Nat.{ℕ, _+_}
 use mathlib.Core.Path.{_≡_, refl, sym, ap, _∙_}
 use mathlib.Core.Bool.{Bool, true, false, cond, _&&_}
 use mathlib.Core.Logic.{inl, inr}
@@ -11,55 +12,77 @@ use mathlib.Core.List.{List, [], _∷_}
 use mathlib.Core.Option.{Option, none, some}
 use native.Mathlib.Omega.{arith}
 use lib.Dec.{eqb}
-use borrow.Author.Tests.{eqb-true}
 use Rattle.address.specs.declared.Address.{Address}
 use Rattle.message.specs.Head.{key}
+use Rattle.message.specs.Attributes.{messageOf}
+use Rattle.message.specs.declared.TransactionId.{TransactionId}
+use Rattle.message.specs.declared.Parsed.{Parsed}
+use Rattle.message.specs.declared.Parsed.the-variants.{Good, Bad}
 use Rattle.waits.specs.declared.RequestRto.{RequestRto}
 use Rattle.waits.specs.declared.Transport.{Transport}
-use Rattle.request.specs.Request.{transmitOf}
+use Rattle.request.specs.Request.{submitted, transmitOf}
 use Rattle.request.specs.Answers.{recordAfter}
 use Rattle.request.specs.declared.StunRequestState.{StunRequestState}
 use Rattle.requests.specs.Search.{lookup, requestOf}
 use Rattle.requests.specs.declared.Found.{Found}
 use Rattle.requests.specs.declared.Found.the-variants.{At, Nothing}
 use Rattle.requests.proofs.Lists.{apart, none-some}
-use Rattle.model.specs.World.{World, StateFormed}
-use Rattle.model.specs.Calls.{submits, sends, receives, transmits, reports, Kind, carries, scans, names, meets, counts, passageOf, onSome}
-use Rattle.model.specs.Accepts.{isFound}
-use Rattle.model.specs.Refusals.{isSubmitted, refusalOf}
+use Rattle.model.specs.World.{World}
+use Rattle.model.specs.Calls.{submits, sends, receives, transmits, reports, Kind, carries, scans, names, meets, counts, onSome}
+use Rattle.model.specs.Accepts.{onMessage, isFound}
 use Rattle.model.specs.Says.{numberIn, saysOf}
 use Rattle.model.specs.Runs.{Turn}
 use Rattle.model.specs.declared.Answer.{Answer}
-use Rattle.model.proofs.Refused.{refused-same}
-use Rattle.model.proofs.Store.{RequestAccepted, request-accepted}
+use Rattle.model.specs.declared.Answer.the-variants as answer
 use Rattle.runs.specs.Run.{kindIn, said, run, handsOutIt}
 use Rattle.runs.specs.Demand.{Start, begins}
-use Rattle.runs.specs.Counts.{Exchange, exchange, history, isYes, one}
+use Rattle.runs.specs.Counts.{onTransmission, Exchange, exchange, history, isYes, one}
 use Rattle.runs.specs.Ends.{End, by-response, submitsBy, submitsIt, respondsTo, reportEnd, endBy, endOf, Lives, as-it-is, absent, accepted, stays, ends, inTable, SilentUntil, Fate, in-the-table, ended, acceptances, endings}
 use Rattle.runs.specs.Followed.{reaches, wishedOf, followedBy}
-use Rattle.runs.proofs.Spared.{passed-spares}
-use Rattle.runs.proofs.Counts.{passed-formed}
-use Rattle.runs.proofs.Followed.{Traced, traced, refused-does}
+use Rattle.runs.proofs.Followed.{Traced, traced}
 
 -- ---- one call, by the definitions alone
 
+-- no transmission of x
+no-transmission : {B : Type 0} (x : ℕ) (a : Answer) (o : B) (f : TransactionId → ℕ → ℕ → B) → handsOutIt x a ≡ false
+    → onTransmission a o (λ id row len. cond (eqb (key id) x) (f id row len) o) ≡ o
+no-transmission x (answer.Refused n) o f e = refl
+no-transmission x answer.Ok o f e = refl
+no-transmission x answer.Yes o f e = refl
+no-transmission x answer.No o f e = refl
+no-transmission x answer.None o f e = refl
+no-transmission x (answer.Send id to row len) o f e = rw e
+no-transmission x (answer.Wait clock) o f e = refl
+no-transmission x (answer.TimedOut id) o f e = refl
+no-transmission x (answer.Cancelled id) o f e = refl
+no-transmission x (answer.Stats s) o f e = refl
+no-transmission x (answer.Average b) o f e = refl
+no-transmission x (answer.Outstanding n) o f e = refl
+no-transmission x (answer.Request to integrity) o f e = refl
+
 module _ (tr : Transport) (rto : RequestRto) (x : ℕ) (m : List ℕ) (a : Answer) where
-  none-either : (b : Bool) (o : Option StunRequestState) → o ≡ none → cond b none o ≡ none
-  none-either true o e = refl
-  none-either false o e = e
+  none-either : (b : Bool) → _≡_ {A = Option StunRequestState} (cond b none none) none
+  none-either true = refl
+  none-either false = refl
 
   none-reported : (o : Option End) → onSome {B = Option StunRequestState} o none (λ how. none) ≡ none
   none-reported none = refl
   none-reported (some how) = refl
 
-  -- where x isn't outstanding
-  away-followed : (k : Kind) → onSome (passageOf k) false isSubmitted ≡ false → followedBy tr rto x k m a none ≡ none
-  away-followed (carries (submits to now)) e = apart e
+  -- what `send_request` makes of another request
+  pub submits-other : (o : Option StunRequestState) (to : Address) (now : ℕ) (p : Parsed) → handsOutIt x a ≡ false
+      → onMessage p o (λ y. onTransmission a o (λ id row len. cond (eqb (key id) x) (some (submitted now id (y .integrity) row len to rto)) o)) ≡ o
+  submits-other o to now (Good y) e = no-transmission x a o (λ id row len. some (submitted now id (y .integrity) row len to rto)) e
+  submits-other o to now Bad e = refl
+
+  -- where x isn't outstanding, nor accepted
+  away-followed : (k : Kind) → submitsBy x k a ≡ false → followedBy tr rto x k m a none ≡ none
+  away-followed (carries (submits to now)) e = submits-other none to now (messageOf m) e
   away-followed (carries (sends to)) e = refl
-  away-followed (carries (receives from clock)) e = none-either (isYes a && respondsTo x m) none refl
-  away-followed (scans transmits now) e = none-either (reaches x a) none refl
+  away-followed (carries (receives from clock)) e = none-either (isYes a && respondsTo x m)
+  away-followed (scans transmits now) e = none-either (reaches x a)
   away-followed (scans reports now) e = none-reported (reportEnd x a)
-  away-followed (names id wish) e = none-either (eqb (numberIn a) 0 && eqb (key id) x) none refl
+  away-followed (names id wish) e = none-either (eqb (numberIn a) 0 && eqb (key id) x)
   away-followed (meets addr y) e = refl
   away-followed (counts f) e = refl
 
@@ -68,9 +91,9 @@ module _ (tr : Transport) (rto : RequestRto) (x : ℕ) (m : List ℕ) (a : Answe
   some-either true r q = (r, refl)
   some-either false r q = (q, refl)
 
-  stays-followed : (k : Kind) (r : StunRequestState) → onSome (passageOf k) false isSubmitted ≡ false → endBy x k m a ≡ none
+  stays-followed : (k : Kind) (r : StunRequestState) → submitsBy x k a ≡ false → endBy x k m a ≡ none
       → (q : StunRequestState) × (followedBy tr rto x k m a (some r) ≡ some q)
-  stays-followed (carries (submits to now)) r e n = apart e
+  stays-followed (carries (submits to now)) r e n = (r, submits-other (some r) to now (messageOf m) e)
   stays-followed (carries (sends to)) r e n = (r, refl)
   stays-followed (carries (receives from clock)) r e n = go (isYes a && respondsTo x m) n
     where
@@ -100,79 +123,25 @@ module _ (tr : Transport) (rto : RequestRto) (x : ℕ) (m : List ℕ) (a : Answe
 
 -- ---- one call of a run
 
-pub record Moves (rows x : ℕ) (w : World) (k : Kind) (m : List ℕ) : Type 0 where
-  pub begun : submitsBy x k (saysOf rows w k m .answer) ≡ true
-      → (q : StunRequestState) × (requestOf (lookup x (saysOf rows w k m .world .requests)) ≡ some q)
-  pub away : requestOf (lookup x (w .requests)) ≡ none → submitsBy x k (saysOf rows w k m .answer) ≡ false
+module _ (rows x : ℕ) (w : World) (k : Kind) (m : List ℕ) where
+  abbrev next : Option StunRequestState → Option StunRequestState
+  next = followedBy (w .agent .transport) (w .agent .rto) x k m (saysOf rows w k m .answer)
+
+  away-call : requestOf (lookup x (w .requests)) ≡ none → submitsBy x k (saysOf rows w k m .answer) ≡ false
       → requestOf (lookup x (saysOf rows w k m .world .requests)) ≡ none
-  pub stays : (r : StunRequestState) → requestOf (lookup x (w .requests)) ≡ some r → endBy x k m (saysOf rows w k m .answer) ≡ none
+  away-call o s = traced rows x w m k .after ∙ ap next o ∙ away-followed (w .agent .transport) (w .agent .rto) x m (saysOf rows w k m .answer) k s
+
+  pub stays-call : (r : StunRequestState) → requestOf (lookup x (w .requests)) ≡ some r → endBy x k m (saysOf rows w k m .answer) ≡ none
       → (q : StunRequestState) × (requestOf (lookup x (saysOf rows w k m .world .requests)) ≡ some q)
-  pub over : (how : End) → endBy x k m (saysOf rows w k m .answer) ≡ some how → requestOf (lookup x (saysOf rows w k m .world .requests)) ≡ none
+  stays-call r o n =
+      let t = traced rows x w m k in
+      let q = stays-followed (w .agent .transport) (w .agent .rto) x m (saysOf rows w k m .answer) k r (t .once r o) n in
+      (q .0, t .after ∙ ap next o ∙ q .1)
 
-module _ (rows x : ℕ) (w : World) (m : List ℕ) where
-  moves-submits : (to : Address) (now : ℕ) → refusalOf rows w (carries (submits to now)) m ≡ 0 → Moves rows x w (carries (submits to now)) m
-  moves-submits to now e =
-      let f = passed-formed rows w (carries (submits to now)) m e in
-      let a = request-accepted rows w to now m f e in
-      go a f (eqb (key (a .message .«transaction_id»)) x) refl
-    where
-      go : (a : RequestAccepted rows w to now m (saysOf rows w (carries (submits to now)) m)) → StateFormed rows w
-          → (b : Bool) → eqb (key (a .message .«transaction_id»)) x ≡ b → Moves rows x w (carries (submits to now)) m
-      go a f true b =
-          let z : key (a .message .«transaction_id») ≡ x = eqb-true (key (a .message .«transaction_id»)) x b in
-          let here : requestOf (lookup x (saysOf rows w (carries (submits to now)) m .world .requests)) ≡ some (a .request) = ap requestOf (rw z at (a .stands)) in
-          record {
-            begun = λ h. (a .request, here);
-            away = λ n h. apart (rw (a .answers, b) at h);
-            stays = λ r g h. (a .request, here);
-            over = λ how h. none-some h;
-          }
-      go a f false b =
-          let s = passed-spares rows x w f (carries (submits to now)) m refl e (rw (a .reads) b) in
-          record {
-            begun = λ h. apart (sym (rw (a .answers, b) at h));
-            away = λ n h. s .kept ∙ n;
-            stays = λ r g h. (r, s .kept ∙ g);
-            over = λ how h. none-some h;
-          }
-
-  moves-other : (k : Kind) → onSome (passageOf k) false isSubmitted ≡ false → submitsBy x k (saysOf rows w k m .answer) ≡ false → Moves rows x w k m
-  moves-other k plain n =
-      let t = traced rows x w m k .after in
-      let a = saysOf rows w k m .answer in
-      let go = followedBy (w .agent .transport) (w .agent .rto) x k m a in
-      record {
-        begun = λ h. apart (sym h ∙ n);
-        away = λ o h. t ∙ ap go o ∙ away-followed (w .agent .transport) (w .agent .rto) x m a k plain;
-        stays = λ r o h.
-            let q = stays-followed (w .agent .transport) (w .agent .rto) x m a k r plain h in
-            (q .0, t ∙ ap go o ∙ q .1);
-        over = λ how h. t ∙ over-followed (w .agent .transport) (w .agent .rto) x m a k (requestOf (lookup x (w .requests))) how h;
-      }
-
-  moves-passed : (k : Kind) → refusalOf rows w k m ≡ 0 → Moves rows x w k m
-  moves-passed (carries (submits to now)) e = moves-submits to now e
-  moves-passed (carries (sends to)) e = moves-other (carries (sends to)) refl refl
-  moves-passed (carries (receives from clock)) e = moves-other (carries (receives from clock)) refl refl
-  moves-passed (scans s now) e = moves-other (scans s now) refl refl
-  moves-passed (names id wish) e = moves-other (names id wish) refl refl
-  moves-passed (meets a y) e = moves-other (meets a y) refl refl
-  moves-passed (counts f) e = moves-other (counts f) refl refl
-
-  pub moves : (k : Kind) → Moves rows x w k m
-  moves k = go (refusalOf rows w k m) refl
-    where
-      go : (n : ℕ) → refusalOf rows w k m ≡ n → Moves rows x w k m
-      go zero e = moves-passed k e
-      go (suc n) e =
-          let s = refused-same rows w k m n e in
-          let d = refused-does rows x w m (suc n) k in
-          record {
-            begun = λ h. apart (sym (rw s at h) ∙ d .0);
-            away = λ o h. rw s o;
-            stays = λ r o h. (r, rw s o);
-            over = λ how h. none-some (sym (d .1) ∙ rw s at h);
-          }
+  over-call : (how : End) → endBy x k m (saysOf rows w k m .answer) ≡ some how → requestOf (lookup x (saysOf rows w k m .world .requests)) ≡ none
+  over-call how e =
+      traced rows x w m k .after
+      ∙ over-followed (w .agent .transport) (w .agent .rto) x m (saysOf rows w k m .answer) k (requestOf (lookup x (w .requests))) how e
 
 -- ---- a run
 
@@ -195,24 +164,22 @@ lives-from rows x (t ∷ ts) w = go (lookup x (w .requests)) refl (lives-from ro
     v : World
     v = said rows w t .world
 
-    m : Moves rows x w (kindIn t) (t .bytes)
-    m = moves rows x w (t .bytes) (kindIn t)
-
     d : Traced rows x w (kindIn t) (t .bytes)
     d = traced rows x w (t .bytes) (kindIn t)
 
-    rest : (b : Bool) → inTable x v ≡ b → Lives x (inTable x v) (history rows v ts) (inTable x (run rows v ts)) → Lives x b (history rows v ts) (inTable x (run rows v ts))
+    rest : (b : Bool) → inTable x v ≡ b → Lives x (inTable x v) (history rows v ts) (inTable x (run rows v ts))
+        → Lives x b (history rows v ts) (inTable x (run rows v ts))
     rest b z l = rw z at l
 
     go-absent : requestOf (lookup x (w .requests)) ≡ none → (b : Bool) → submitsIt x e ≡ b
         → Lives x (inTable x v) (history rows v ts) (inTable x (run rows v ts)) → Lives x false (e ∷ history rows v ts) (inTable x (run rows v ts))
-    go-absent o true s l = let q = m .begun s in accepted s (rest true (found-some (lookup x (v .requests)) (q .0) (q .1)) l)
-    go-absent o false s l = absent (d .unsent o ∙ s) (d .unended o) (rest false (found-none (lookup x (v .requests)) (m .away o s)) l)
+    go-absent o true s l = let q = d .begun s in accepted s (rest true (found-some (lookup x (v .requests)) (q .0) (q .1)) l)
+    go-absent o false s l = absent (d .unsent o ∙ s) (d .unended o) (rest false (found-none (lookup x (v .requests)) (away-call rows x w (kindIn t) (t .bytes) o s)) l)
 
     go-present : (r : StunRequestState) → requestOf (lookup x (w .requests)) ≡ some r → (h : Option End) → endOf x e ≡ h
         → Lives x (inTable x v) (history rows v ts) (inTable x (run rows v ts)) → Lives x true (e ∷ history rows v ts) (inTable x (run rows v ts))
-    go-present r o none h l = let q = m .stays r o h in stays (d .once r o) h (rest true (found-some (lookup x (v .requests)) (q .0) (q .1)) l)
-    go-present r o (some how) h l = ends how (d .once r o) h (rest false (found-none (lookup x (v .requests)) (m .over how h)) l)
+    go-present r o none h l = let q = stays-call rows x w (kindIn t) (t .bytes) r o h in stays (d .once r o) h (rest true (found-some (lookup x (v .requests)) (q .0) (q .1)) l)
+    go-present r o (some how) h l = ends how (d .once r o) h (rest false (found-none (lookup x (v .requests)) (over-call rows x w (kindIn t) (t .bytes) how h)) l)
 
     go : (f : Found) → lookup x (w .requests) ≡ f → Lives x (inTable x v) (history rows v ts) (inTable x (run rows v ts))
         → Lives x (isFound f) (e ∷ history rows v ts) (inTable x (run rows v ts))
@@ -250,7 +217,7 @@ module _ (rows x : ℕ) (s : Start) (before : List Turn) (t : Turn) (later : Lis
   pub fate : submitsIt x (exchange rows here t) ≡ true
       → Fate x (history rows (said rows here t .world) later) (run rows (said rows here t .world) later)
   fate a =
-      let q = moves rows x here (t .bytes) (kindIn t) .begun a in
+      let q = traced rows x here (t .bytes) (kindIn t) .begun a in
       let v = said rows here t .world in
       fate-from x (run rows v later) (history rows v later) (inTable x v) (inTable x (run rows v later))
       (found-some (lookup x (v .requests)) (q .0) (q .1)) refl (lives-from rows x later v)

@@ -25,7 +25,7 @@ use Rattle.request.specs.declared.StunRequestState.{StunRequestState}
 use Rattle.request.specs.declared.StunRequestPollRet.{StunRequestPollRet}
 use Rattle.request.specs.declared.StunRequestPollRet.the-variants as poll-ret
 use Rattle.request.proofs.Kept.{same-silenced, same-cancelled, same-configured}
-use Rattle.requests.specs.Search.{keyOf, keysOf, lookup, requestOf}
+use Rattle.requests.specs.Search.{keyOf, keysOf, lookup, placeOf, requestOf}
 use Rattle.requests.specs.Formed.{Ascending}
 use Rattle.requests.specs.Scan.{hour, walk, pollAll}
 use Rattle.requests.specs.declared.Found.{Found}
@@ -43,12 +43,12 @@ use Rattle.model.specs.Calls.{Meeting, ask, validate, Figure, numbers, mean, un
 use Rattle.model.specs.Accepts.{onMessage, isResponse, accepts}
 use Rattle.model.specs.Refusals.{refusalOf}
 use Rattle.model.specs.Effects.{onFound, keeps, removes, changed, reported, wished, yesOrNo, transmitAnswer, pollAnswer, wishAnswer, meetingAnswer, figureAnswer}
-use Rattle.model.specs.Says.{numberIn, saysOf}
+use Rattle.model.specs.Says.{Said, numberIn, saysOf}
 use Rattle.model.specs.Runs.{Turn}
 use Rattle.model.specs.declared.Answer.{Answer}
 use Rattle.model.specs.declared.Answer.the-variants as answer
 use Rattle.model.proofs.Refused.{refused-same}
-use Rattle.model.proofs.Classes.{done, change-names, answer-sends, answer-receives, answer-reports, answer-names, answer-meets, answer-counts}
+use Rattle.model.proofs.Classes.{passed-formed, done, change-names, answer-sends, answer-receives, answer-reports, answer-names, answer-meets, answer-counts}
 use Rattle.model.proofs.Answers.{answer-number}
 use Rattle.model.proofs.Received.{response-found, response-taken}
 use Rattle.model.proofs.Kept.{says-agent}
@@ -59,7 +59,6 @@ use Rattle.runs.specs.Counts.{exchange, history, isYes}
 use Rattle.runs.specs.Ends.{End, by-timeout, by-cancel, submitsBy, respondsTo, reportEnd, endBy}
 use Rattle.runs.specs.Followed.{reaches, wishedOf, mapped, followedBy, followed, followedThrough}
 use Rattle.runs.proofs.Spared.{ScanSaid, passed-spares, scan-said, ended-other, not-found, requests-after}
-use Rattle.runs.proofs.Counts.{passed-formed}
 
 -- The calls that hand a request out.
 abbrev pub handedBy : ℕ → Kind → Answer → Bool
@@ -78,11 +77,19 @@ pub record Traced (rows x : ℕ) (w : World) (k : Kind) (m : List ℕ) : Type 0 
   -- where x isn't outstanding, nothing of it is sent but by its acceptance, and it doesn't end
   pub unsent : requestOf (lookup x (w .requests)) ≡ none → handsOutIt x (saysOf rows w k m .answer) ≡ submitsBy x k (saysOf rows w k m .answer)
   pub unended : requestOf (lookup x (w .requests)) ≡ none → endBy x k m (saysOf rows w k m .answer) ≡ none
-  -- where it is, it isn't accepted
+  -- accepted, it is outstanding; where it was, it isn't accepted
+  pub begun : submitsBy x k (saysOf rows w k m .answer) ≡ true
+      → (q : StunRequestState) × (requestOf (lookup x (saysOf rows w k m .world .requests)) ≡ some q)
   pub once : (r : StunRequestState) → requestOf (lookup x (w .requests)) ≡ some r → submitsBy x k (saysOf rows w k m .answer) ≡ false
 
 none-not : {C : Type 0} {r : StunRequestState} {f : Found} → f ≡ Nothing → requestOf f ≡ some r → C
 none-not e s = none-some (sym (ap requestOf e) ∙ s)
+
+-- an accepted request stands under its identifier
+pub stands-at : (rows x : ℕ) (w : World) (to : Address) (now : ℕ) (m : List ℕ) (s : Said) (a : RequestAccepted rows w to now m s)
+    → key (a .message .«transaction_id») ≡ x
+    → lookup x (s .world .requests) ≡ At (placeOf (key (a .message .«transaction_id»)) (w .requests)) (a .request)
+stands-at rows x w to now m s a z = ap (λ (n : ℕ). lookup n (s .world .requests)) (sym z) ∙ a .stands
 
 choice-unsent : (x : ℕ) (b : Bool) → handsOutIt x (yesOrNo b) ≡ false
 choice-unsent x true = refl
@@ -121,7 +128,8 @@ module _ (rows x : ℕ) (w : World) (m : List ℕ) where
   handed-passed (carries (submits to now)) e = refl
   handed-passed (carries (sends to)) e = rw (done rows w (carries (sends to)) m e .answer, answer-sends rows w m to)
   handed-passed (carries (receives from clock)) e =
-      rw (done rows w (carries (receives from clock)) m e .answer, answer-receives rows w m from clock) (heard-unsent (messageOf m) (accepts (w .requests) from))
+      rw (done rows w (carries (receives from clock)) m e .answer, answer-receives rows w m from clock)
+      (heard-unsent (messageOf m) (accepts (w .requests) from))
   handed-passed (scans transmits now) e = refl
   handed-passed (scans reports now) e =
       rw (done rows w (scans reports now) m e .answer, answer-reports rows w m now) (poll-unsent (pollAll (w .agent .transport) now (w .requests)))
@@ -134,18 +142,21 @@ module _ (rows x : ℕ) (w : World) (m : List ℕ) where
 
   traced-submits : (to : Address) (now : ℕ) → StateFormed rows w → refusalOf rows w (carries (submits to now)) m ≡ 0
       → Traced rows x w (carries (submits to now)) m
-  traced-submits to now formed e = go (request-accepted rows w to now m formed e) (eqb (key (request-accepted rows w to now m formed e .message .«transaction_id»)) x) refl
+  traced-submits to now formed e =
+      let a = request-accepted rows w to now m formed e in
+      go a (eqb (key (a .message .«transaction_id»)) x) refl
     where
-      go : (a : RequestAccepted rows w to now m (saysOf rows w (carries (submits to now)) m)) (b : Bool) → eqb (key (a .message .«transaction_id»)) x ≡ b
-          → Traced rows x w (carries (submits to now)) m
+      go : (a : RequestAccepted rows w to now m (saysOf rows w (carries (submits to now)) m)) (b : Bool)
+          → eqb (key (a .message .«transaction_id»)) x ≡ b → Traced rows x w (carries (submits to now)) m
       go a true b =
           let z : key (a .message .«transaction_id») ≡ x = eqb-true (key (a .message .«transaction_id»)) x b in
           let gone : lookup x (w .requests) ≡ Nothing = rw z at (a .new) in
-          let here : requestOf (lookup x (saysOf rows w (carries (submits to now)) m .world .requests)) ≡ some (a .request) = ap requestOf (rw z at (a .stands)) in
+          let here = ap requestOf (stands-at rows x w to now m (saysOf rows w (carries (submits to now)) m) a z) in
           record {
             after = here ∙ rw (a .answers, a .reads, b, a .request-is);
             unsent = λ n. refl;
             unended = λ n. refl;
+            begun = λ h. (a .request, here);
             once = λ r f. none-not gone f;
           }
       go a false b =
@@ -155,6 +166,7 @@ module _ (rows x : ℕ) (w : World) (m : List ℕ) where
             after = s .kept ∙ rw (a .answers, a .reads, b);
             unsent = λ n. refl;
             unended = λ n. refl;
+            begun = λ h. apart (sym (rw (a .answers, b) at h));
             once = λ r f. rw (a .answers, b);
           }
 
@@ -179,7 +191,8 @@ module _ (rows x : ℕ) (w : World) (m : List ℕ) where
 
     -- it was outstanding, and is no more
     taken-out : (p : Parsed) → messageOf m ≡ p → onMessage p false (answersTo x (w .requests) from) ≡ true
-        → (requestOf (lookup x (w .requests)) ≡ none → ⊥) × (requestOf (lookup x (saysOf rows w (carries (receives from clock)) m .world .requests)) ≡ none)
+        → (requestOf (lookup x (w .requests)) ≡ none → ⊥)
+        × (requestOf (lookup x (saysOf rows w (carries (receives from clock)) m .world .requests)) ≡ none)
     taken-out Bad r h = apart (sym h)
     taken-out (Good y) r h =
         let a = and-eq-true-iff _ _ .0 h in
@@ -198,10 +211,22 @@ module _ (rows x : ℕ) (w : World) (m : List ℕ) where
         go : (b : Bool) → handles x w (carries (receives from clock)) m ≡ b → Traced rows x w (carries (receives from clock)) m
         go true b =
             let t = taken-out (messageOf m) refl b in
-            record { after = t .1 ∙ rw (handled-is, b); unsent = λ n. handed-passed (carries (receives from clock)) e; unended = λ n. absurd (t .0 n); once = λ r f. refl }
+            record {
+              after = t .1 ∙ rw (handled-is, b);
+              unsent = λ n. handed-passed (carries (receives from clock)) e;
+              unended = λ n. absurd (t .0 n);
+              begun = λ h. apart (sym h);
+              once = λ r f. refl;
+            }
         go false b =
             let s = passed-spares rows x w formed (carries (receives from clock)) m refl e b in
-            record { after = s .kept ∙ rw (handled-is, b); unsent = λ n. handed-passed (carries (receives from clock)) e; unended = λ n. rw (handled-is, b); once = λ r f. refl }
+            record {
+              after = s .kept ∙ rw (handled-is, b);
+              unsent = λ n. handed-passed (carries (receives from clock)) e;
+              unended = λ n. rw (handled-is, b);
+              begun = λ h. apart (sym h);
+              once = λ r f. refl;
+            }
 
   -- ---- `poll_transmit`
 
@@ -225,8 +250,11 @@ module _ (rows x : ℕ) (w : World) (m : List ℕ) where
   traced-transmits : (now : ℕ) → StateFormed rows w → refusalOf rows w (scans transmits now) m ≡ 0 → Traced rows x w (scans transmits now) m
   traced-transmits now formed e = record {
     after = rw (s .answers, s .requests) (go (lookup x (w .requests)) refl);
-    unsent = λ n. rw (s .answers) (other-unsent (walk t now (w .requests) .out) (transmit-none t now (w .requests) x (not-found (lookup x (w .requests)) n) .1));
+    unsent = λ n.
+        let z = transmit-none t now (w .requests) x (not-found (lookup x (w .requests)) n) in
+        rw (s .answers) (other-unsent (walk t now (w .requests) .out) (z .1));
     unended = λ n. refl;
+    begun = λ h. apart (sym h);
     once = λ r f. refl;
   }
     where
@@ -238,7 +266,8 @@ module _ (rows x : ℕ) (w : World) (m : List ℕ) where
 
       go : (f : Found) → lookup x (w .requests) ≡ f
           → requestOf (lookup x (walk t now (w .requests) .after))
-          ≡ cond (reaches x (transmitAnswer (walk t now (w .requests) .out))) (mapped (requestOf f) (λ r. recordAfter r (transmitOf t now r))) (requestOf f)
+          ≡ cond (reaches x (transmitAnswer (walk t now (w .requests) .out))) (mapped (requestOf f) (λ r. recordAfter r (transmitOf t now r)))
+          (requestOf f)
       go (At i r) f =
           ap requestOf (scanned-found t now (w .requests) x i r (formed .requests .order) f)
           ∙ scan-mapped t now (walk t now (w .requests) .out) r (found-at x i r (w .requests) f .key-is)
@@ -281,6 +310,7 @@ module _ (rows x : ℕ) (w : World) (m : List ℕ) where
         after = rw (s .answers, s .requests) (poll-after t now (w .requests) (formed .requests .order) o p);
         unsent = λ n. handed-passed (scans reports now) e;
         unended = λ n. rw (s .answers) (poll-unended t now (w .requests) (not-found (lookup x (w .requests)) n) o p);
+        begun = λ h. apart (sym h);
         once = λ r f. refl;
       }
 
@@ -305,6 +335,7 @@ module _ (rows x : ℕ) (w : World) (m : List ℕ) where
     after = rw (eq-eqb (numberIn (saysOf rows w (names id wish) m .answer)) 0 (answer-number rows w m (names id wish) ∙ e)) (go (eqb (key id) x) refl);
     unsent = λ n. handed-passed (names id wish) e;
     unended = λ n. refl;
+    begun = λ h. apart (sym h);
     once = λ r f. refl;
   }
     where
@@ -324,6 +355,7 @@ module _ (rows x : ℕ) (w : World) (m : List ℕ) where
     after = passed-spares rows x w formed (carries (sends to)) m refl e refl .kept;
     unsent = λ n. handed-passed (carries (sends to)) e;
     unended = λ n. refl;
+    begun = λ h. apart (sym h);
     once = λ r f. refl;
   }
   traced-passed (carries (receives from clock)) e formed = traced-receives from clock formed e
@@ -334,12 +366,14 @@ module _ (rows x : ℕ) (w : World) (m : List ℕ) where
     after = passed-spares rows x w formed (meets a y) m refl e refl .kept;
     unsent = λ n. handed-passed (meets a y) e;
     unended = λ n. refl;
+    begun = λ h. apart (sym h);
     once = λ r f. refl;
   }
   traced-passed (counts f) e formed = record {
     after = passed-spares rows x w formed (counts f) m refl e refl .kept;
     unsent = λ n. handed-passed (counts f) e;
     unended = λ n. refl;
+    begun = λ h. apart (sym h);
     once = λ r f. refl;
   }
 
@@ -349,7 +383,8 @@ module _ (rows x : ℕ) (w : World) (m : List ℕ) where
   same-either (Good y) o = refl
   same-either Bad o = refl
 
-  refused-followed : (n : ℕ) (k : Kind) (o : Option StunRequestState) → o ≡ followedBy (w .agent .transport) (w .agent .rto) x k m (answer.Refused (suc n)) o
+  refused-followed : (n : ℕ) (k : Kind) (o : Option StunRequestState)
+      → o ≡ followedBy (w .agent .transport) (w .agent .rto) x k m (answer.Refused (suc n)) o
   refused-followed n (carries (submits to now)) o = same-either (messageOf m) o
   refused-followed n (carries (sends to)) o = refl
   refused-followed n (carries (receives from clock)) o = refl
@@ -380,6 +415,7 @@ module _ (rows x : ℕ) (w : World) (m : List ℕ) where
             after = rw s (refused-followed n k (requestOf (lookup x (w .requests))));
             unsent = λ z. rw s (sym (refused-does (suc n) k .0));
             unended = λ z. rw s (refused-does (suc n) k .1);
+            begun = λ h. apart (sym (rw s at h) ∙ refused-does (suc n) k .0);
             once = λ r z. rw s (refused-does (suc n) k .0);
           }
 
@@ -409,7 +445,8 @@ pub followed-at : (rows x : ℕ) (tr : Transport) (rto : RequestRto) (w : World)
 followed-at rows x tr rto w t s c =
     let e = exchange rows w c in
     let o = requestOf (lookup x (w .requests)) in
-    traced rows x w (c .bytes) (kindIn c) .after ∙ ap (λ (u : Transport). followed u (w .agent .rto) x e o) t ∙ ap (λ (u : RequestRto). followed tr u x e o) s
+    traced rows x w (c .bytes) (kindIn c) .after ∙ ap (λ (u : Transport). followed u (w .agent .rto) x e o) t
+    ∙ ap (λ (u : RequestRto). followed tr u x e o) s
 
 pub follows : (rows x : ℕ) (tr : Transport) (rto : RequestRto) (ts : List Turn) (w : World) → w .agent .transport ≡ tr → w .agent .rto ≡ rto
     → requestOf (lookup x (run rows w ts .requests)) ≡ followedThrough tr rto x (requestOf (lookup x (w .requests))) (history rows w ts)

@@ -1,21 +1,21 @@
 -- The round trips of a run.
 --     round-trips-are    the four numbers of them, from a fresh agent with statistics on, without a reset
 --     accounts-are       all 14 numbers of the record
---     sample-is          what a sample is: the clock minus the clock of the submission, where the request made no step since
+--     samples-last       each sample is read from the requests as the calls before it left them
+--     sample-is          what it is: the clock minus the clock of the submission, where the request made no step since
 use Prim.Native.Nat.{ℕ, zero, suc, _+_, _-_}
 use mathlib.Core.Path.{_≡_, refl, sym, ap, _∙_, subst}
-use mathlib.Core.Bool.{Bool, true, false, cond, _&&_}
+use mathlib.Core.Bool.{Bool, true, false, cond, not, _&&_, and-eq-true-iff}
 use mathlib.Core.List.{List, [], _∷_, _++_, append-assoc, append-nil}
 use mathlib.Core.Option.{Option, none, some}
 use native.Mathlib.Omega.{arith}
-use native.Mathlib.Nat.{add-zero, zero-add, add-assoc}
+use native.Mathlib.Nat.{add-zero, add-assoc}
 use lib.Dec.{eqb}
 use lib.ListN.{length, length-append}
 use borrow.Author.Tests.{eqb-true}
 use Rattle.address.specs.declared.Address.{Address}
 use Rattle.message.specs.Head.{key}
 use Rattle.message.specs.Attributes.{messageOf}
-use Rattle.message.specs.declared.TransactionId.{TransactionId}
 use Rattle.message.specs.declared.MessageClass.{MessageClass}
 use Rattle.message.specs.declared.MessageClass.the-variants.{Request, Indication, Success, Error}
 use Rattle.message.specs.declared.Message.{Message}
@@ -30,8 +30,8 @@ use Rattle.stats.specs.declared.StunAgentStats.{StunAgentStats}
 use Rattle.stats.specs.declared.Event.{Event}
 use Rattle.stats.specs.declared.Event.the-variants as event
 use Rattle.stats.proofs.Fields.{times-after}
-use Rattle.request.specs.Times.{rttOf}
-use Rattle.request.specs.Request.{submitted, stepped, silenced, cancelled, configured}
+use Rattle.request.specs.Times.{isDue, rttOf}
+use Rattle.request.specs.Request.{stepped, silenced, cancelled, configured}
 use Rattle.request.specs.declared.SendTimes.the-variants.{Sent}
 use Rattle.request.proofs.Steps.{step-again}
 use Rattle.request.proofs.Answers.{after-exactly}
@@ -51,8 +51,9 @@ use Rattle.model.specs.Accepts.{onMessage, isResponse, accepts}
 use Rattle.model.specs.Refusals.{refusalOf}
 use Rattle.model.specs.Effects.{yesOrNo, sentAs, receivedAs, rttAt, transmitEvent, pollEvent, eventBy}
 use Rattle.model.specs.Says.{numberIn, saysOf}
-use Rattle.model.specs.Runs.{Turn}
+use Rattle.model.specs.Runs.{Turn, with}
 use Rattle.model.specs.declared.Answer.{Answer}
+use Rattle.model.specs.declared.Call.the-variants as call
 use Rattle.model.specs.declared.Answer.the-variants as answer
 use Rattle.model.proofs.Refused.{refused-same}
 use Rattle.model.proofs.Classes.{done, event-on, answer-receives}
@@ -60,15 +61,16 @@ use Rattle.model.proofs.Below.{submission}
 use Rattle.model.proofs.Store.{request-accepted}
 use Rattle.model.proofs.Statistics.{counts-event}
 use Rattle.model.proofs.Kept.{says-agent}
-use Rattle.runs.specs.Run.{kindIn, said, run, handsOutIt}
+use Rattle.runs.specs.Run.{kindIn, said, run}
 use Rattle.runs.specs.Demand.{Start, begins, Submission, submits as submits-of}
 use Rattle.runs.specs.Counts.{Exchange, seen, exchange, history, isYes, one, resets, NoReset}
 use Rattle.runs.specs.Ends.{by-response, submitsBy, submitsIt, respondsTo, endBy, Unended}
-use Rattle.runs.specs.Followed.{onTransmission, reaches, wishedOf, followedBy, followed, followedThrough}
-use Rattle.runs.specs.Samples.{Left, measured, sampleOf, listed, samplesFrom, samples, sumOf, leastOf, greatestOf, RoundTrips, Accounts, dueAt, stepsBy, stepsThrough}
-use Rattle.runs.proofs.Steady.{run-agent}
+use Rattle.runs.specs.Followed.{reaches, wishedOf, followedBy, followed, followedThrough}
+use Rattle.runs.specs.Samples.{Left, leftBy, measured, sampleOf, listed, samplesFrom, samples, sumOf, leastOf, greatestOf, RoundTrips, Accounts, stepsBy, stepsThrough}
+use Rattle.runs.proofs.Steady.{run-append, run-agent}
 use Rattle.runs.proofs.Counts.{begins-zeroed, counters-are}
-use Rattle.runs.proofs.Followed.{followed-at, follows}
+use Rattle.runs.proofs.Followed.{stands-at, traced, followed-at, follows, follows-fresh}
+use Rattle.runs.proofs.Ends.{submits-other}
 use Rattle.runs.proofs.Bytes.{passes, formed, is-x}
 
 -- ---- one sample more, at the end of a list
@@ -128,7 +130,8 @@ sent-times n Bad t = refl
 
 heard-times : (n : ℕ) (rtt : Message → Rtt) (takes : Message → Bool) (p : Parsed) (t : Times)
     → timesAfter (onMessage p event.Nothing (λ x. cond (takes x) (receivedAs n (rtt x) (x .class)) event.Nothing)) t
-    ≡ timedBy (cond (isYes (onMessage p answer.No (λ x. yesOrNo (takes x)))) (onMessage p Absent (λ x. cond (isResponse (x .class)) (rtt x) Absent)) Absent) t
+    ≡ timedBy
+    (cond (isYes (onMessage p answer.No (λ x. yesOrNo (takes x)))) (onMessage p Absent (λ x. cond (isResponse (x .class)) (rtt x) Absent)) Absent) t
 heard-times n rtt takes Bad t = refl
 heard-times n rtt takes (Good x) t = go (takes x)
   where
@@ -165,7 +168,8 @@ module _ (rows : ℕ) (w : World) (m : List ℕ) (left : Left) (agrees : (x : �
       rw (done rows w (carries (receives from clock)) m e .answer, answer-receives rows w m from clock)
       (heard-times (length m) (λ y. rttAt clock (lookup (key (y .«transaction_id»)) (w .requests))) (accepts (w .requests) from) (messageOf m) t
       ∙ ap (λ (z : Rtt). timedBy (cond (isYes (onMessage (messageOf m) answer.No (λ y. yesOrNo (accepts (w .requests) from y)))) z Absent) t)
-      (read-same (messageOf m) (λ y. rttAt clock (lookup (key (y .«transaction_id»)) (w .requests))) (λ y. measured clock (left (key (y .«transaction_id»))))
+      (read-same (messageOf m) (λ y. rttAt clock (lookup (key (y .«transaction_id»)) (w .requests)))
+      (λ y. measured clock (left (key (y .«transaction_id»))))
       (λ y. measured-is clock (lookup (key (y .«transaction_id»)) (w .requests)) ∙ ap (measured clock) (agrees (key (y .«transaction_id»))))))
   passed-times (scans transmits now) kept e t = transmit-times (walk (w .agent .transport) now (w .requests) .out) t
   passed-times (scans reports now) kept e t = poll-times (pollAll (w .agent .transport) now (w .requests)) t
@@ -212,7 +216,8 @@ module _ (rows : ℕ) (tr : Transport) (rto : RequestRto) where
       let next : (x : ℕ) → requestOf (lookup x (v .requests)) ≡ followed tr rto x e (left x) =
       λ x. followed-at rows x tr rto w t s c ∙ ap (followed tr rto x e) (agrees x) in
       rw (← append-assoc l (listed (sampleOf left e)) (samplesFrom tr rto (λ x. followed tr rto x e (left x)) (history rows v ts)))
-      (trips-from ts v (λ x. followed tr rto x e (left x)) (l ++ listed (sampleOf left e)) next (a .transport ∙ t) (a .rto ∙ s) (a .stats ∙ on) (kept .1) one)
+      (trips-from ts v (λ x. followed tr rto x e (left x)) (l ++ listed (sampleOf left e)) next
+      (a .transport ∙ t) (a .rto ∙ s) (a .stats ∙ on) (kept .1) one)
 
 pub round-trips-are : (rows : ℕ) (s : Start) (ts : List Turn) → s .stats ≡ true → NoReset ts
     → RoundTrips (samples (s .transport) (s .rto) (history rows (begins s) ts)) (run rows (begins s) ts .stats)
@@ -261,23 +266,6 @@ timed-rtt c n r t now = rw (t .times, t .count) (go (eqb n 0) refl)
     go true b = rw (t .unstepped (eqb-true n 0 b))
     go false b = refl
 
--- no transmission of x
-no-transmission : {B : Type 0} (x : ℕ) (a : Answer) (o : B) (f : TransactionId → ℕ → ℕ → B) → handsOutIt x a ≡ false
-    → onTransmission a o (λ id row len. cond (eqb (key id) x) (f id row len) o) ≡ o
-no-transmission x (answer.Refused n) o f e = refl
-no-transmission x answer.Ok o f e = refl
-no-transmission x answer.Yes o f e = refl
-no-transmission x answer.No o f e = refl
-no-transmission x answer.None o f e = refl
-no-transmission x (answer.Send id to row len) o f e = rw e
-no-transmission x (answer.Wait clock) o f e = refl
-no-transmission x (answer.TimedOut id) o f e = refl
-no-transmission x (answer.Cancelled id) o f e = refl
-no-transmission x (answer.Stats s) o f e = refl
-no-transmission x (answer.Average b) o f e = refl
-no-transmission x (answer.Outstanding n) o f e = refl
-no-transmission x (answer.Request to integrity) o f e = refl
-
 module _ (tr : Transport) (rto : RequestRto) (x : ℕ) where
   -- what a call makes of it that neither accepts nor ends it
   record Goes-on (c n : ℕ) (o : Option StunRequestState) : Type 0 where
@@ -288,11 +276,6 @@ module _ (tr : Transport) (rto : RequestRto) (x : ℕ) where
   module _ (m : List ℕ) (a : Answer) (c n : ℕ) (r : StunRequestState) (t : Timed c n r) where
     same : Goes-on c (n + 0) (some r)
     same = record { request = r; is = refl; timed = timed-same c n r t }
-
-    submits-on : (to : Address) (now : ℕ) (p : Parsed) → handsOutIt x a ≡ false
-        → Goes-on c (n + 0) (onMessage p (some r) (λ y. onTransmission a (some r) (λ id row len. cond (eqb (key id) x) (some (submitted now id (y .integrity) row len to rto)) (some r))))
-    submits-on to now (Good y) e = rw (no-transmission x a (some r) (λ id row len. some (submitted now id (y .integrity) row len to rto)) e) same
-    submits-on to now Bad e = same
 
     receives-on : (b : Bool) → cond b (some by-response) none ≡ none → Goes-on c (n + 0) (cond b none (some r))
     receives-on true e = none-some (sym e)
@@ -307,11 +290,11 @@ module _ (tr : Transport) (rto : RequestRto) (x : ℕ) where
     wish-on wish true = record { request = wishedOf wish r; is = refl; timed = timed-same c n (wishedOf wish r) (timed-wished c n r t wish) }
     wish-on wish false = same
 
-    goes-on : (k : Kind) → submitsBy x k a ≡ false → endBy x k m a ≡ none → Goes-on c (n + stepsBy tr rto x k a r) (followedBy tr rto x k m a (some r))
-    goes-on (carries (submits to now)) s e = submits-on to now (messageOf m) s
+    goes-on : (k : Kind) → submitsBy x k a ≡ false → endBy x k m a ≡ none → Goes-on c (n + stepsBy tr x k a r) (followedBy tr rto x k m a (some r))
+    goes-on (carries (submits to now)) s e = rw (submits-other tr rto x m a (some r) to now (messageOf m) s) same
     goes-on (carries (sends to)) s e = same
     goes-on (carries (receives from clock)) s e = receives-on (isYes a && respondsTo x m) e
-    goes-on (scans transmits now) s e = rw (after-exactly tr now r) (transmits-on now (reaches x a) (dueAt tr rto x now r))
+    goes-on (scans transmits now) s e = rw (after-exactly tr now r) (transmits-on now (reaches x a) (not (r .«recv_cancelled») && isDue tr now r))
     goes-on (scans reports now) s e = rw e same
     goes-on (names id wish) s e = wish-on wish (eqb (numberIn a) 0 && eqb (key id) x)
     goes-on (meets addr y) s e = same
@@ -322,17 +305,29 @@ module _ (tr : Transport) (rto : RequestRto) (x : ℕ) where
   timed-through [] c n r q t u e = rw (some-same (sym e), add-zero) t
   timed-through (d ∷ l) c n r q t u e =
       let g = goes-on (d .bytes) (d .answer) c n r t (d .about) (u .1) (u .0) in
-      let k = stepsBy tr rto x (d .about) (d .answer) r in
-      let f : followedThrough tr rto x (some (g .request)) l ≡ some q = sym (ap (λ (o : Option StunRequestState). followedThrough tr rto x o l) (g .is)) ∙ e in
+      let k = stepsBy tr x (d .about) (d .answer) r in
+      let f : followedThrough tr rto x (some (g .request)) l ≡ some q =
+      sym (ap (λ (o : Option StunRequestState). followedThrough tr rto x o l) (g .is)) ∙ e in
       let z : stepsThrough tr rto x (some (g .request)) l ≡ stepsThrough tr rto x (followed tr rto x d (some r)) l =
       ap (λ (o : Option StunRequestState). stepsThrough tr rto x o l) (sym (g .is)) in
       subst (λ (i : ℕ). Timed c i q)
       (add-assoc n k (stepsThrough tr rto x (some (g .request)) l) ∙ ap (λ (i : ℕ). n + (k + i)) z)
       (timed-through l c (n + k) (g .request) q (g .timed) (u .2) f)
 
--- A request accepted at a call of a run, and the calls after it up to now, which neither end it nor accept it again: the sample that a
--- response at the clock `now` would give is now minus the clock of the submission, and there is one exactly if the request, as accepted r,
--- made no step in those calls.
+-- The last call's sample is read from the requests as the calls before it left them.
+last-from : (tr : Transport) (rto : RequestRto) (l : List Exchange) (e : Exchange) (left : Left)
+    → samplesFrom tr rto left (l ++ (e ∷ [])) ≡ samplesFrom tr rto left l ++ listed (sampleOf (λ x. followedThrough tr rto x (left x) l) e)
+last-from tr rto [] e left = append-nil (listed (sampleOf left e))
+last-from tr rto (d ∷ l) e left =
+    ap (λ (z : List ℕ). listed (sampleOf left d) ++ z) (last-from tr rto l e (λ x. followed tr rto x d (left x)))
+    ∙ sym (append-assoc (listed (sampleOf left d)) (samplesFrom tr rto (λ x. followed tr rto x d (left x)) l)
+    (listed (sampleOf (λ x. followedThrough tr rto x (left x) (d ∷ l)) e)))
+
+pub samples-last : (tr : Transport) (rto : RequestRto) (l : List Exchange) (e : Exchange)
+    → samples tr rto (l ++ (e ∷ [])) ≡ samples tr rto l ++ listed (sampleOf (leftBy tr rto l) e)
+samples-last tr rto l e = last-from tr rto l e (λ x. none)
+
+-- A request accepted at a call of a run, and the calls after it up to now, which neither end it nor accept it again.
 module _ (rows x : ℕ) (s : Start) (before : List Turn) (q : Submission) (later : List Turn) where
   abbrev here : World
   here = run rows (begins s) before
@@ -340,23 +335,70 @@ module _ (rows x : ℕ) (s : Start) (before : List Turn) (q : Submission) (later
   abbrev then : World
   then = said rows here (submits-of q) .world
 
-  pub sample-is : submitsIt x (exchange rows here (submits-of q)) ≡ true → Unended x (history rows then later)
-      → (r p : StunRequestState) → requestOf (lookup x (then .requests)) ≡ some r → requestOf (lookup x (run rows then later .requests)) ≡ some p
-      → (now : ℕ) → rttOf now p ≡ cond (eqb (stepsThrough (s .transport) (s .rto) x (some r) (history rows then later)) 0) (Nanos (now - q .now)) Absent
-  sample-is taken u r p f g now =
-      let a = request-accepted rows here (q .to) (q .now) (q .bytes) (formed rows x here q taken) (passes rows x here q taken) in
-      let y = a .message in
-      let b = submission (q .now) (y .«transaction_id») (y .integrity) (a .row) (length (q .bytes)) (q .to) (here .agent .rto) in
-      let z : key (y .«transaction_id») ≡ x = is-x rows x here q taken a in
-      let stood : requestOf (lookup x (then .requests)) ≡ some (a .request) = ap (λ (n : ℕ). requestOf (lookup n (then .requests))) (sym z) ∙ ap requestOf (a .stands) in
-      let e : r ≡ submitted (q .now) (y .«transaction_id») (y .integrity) (a .row) (length (q .bytes)) (q .to) (here .agent .rto) =
-      some-same (sym f ∙ stood) ∙ a .request-is in
-      let t : Timed (q .now) 0 r = rw e (record { last = q .now; times = b .times-are; count = b .count-is; unstepped = λ n. refl }) in
-      let agent = says-agent rows here (kindIn (submits-of q)) (q .bytes) in
-      let build = run-agent rows before (begins s) in
-      let through : followedThrough (s .transport) (s .rto) x (some r) (history rows then later) ≡ some p =
-      sym (follows rows x (s .transport) (s .rto) later then (agent .transport ∙ build .transport) (agent .rto ∙ build .rto)
-      ∙ ap (λ (o : Option StunRequestState). followedThrough (s .transport) (s .rto) x o (history rows then later)) f) ∙ g in
-      let n = stepsThrough (s .transport) (s .rto) x (some r) (history rows then later) in
-      timed-rtt (q .now) n p
-      (rw (zero-add n) at (timed-through (s .transport) (s .rto) x (history rows then later) (q .now) 0 r p t u through)) now
+  abbrev now-at : World
+  now-at = run rows then later
+
+  -- its steps, and the requests as all the calls so far left them
+  abbrev steps : ℕ
+  steps = stepsThrough (s .transport) (s .rto) x none (history rows here (submits-of q ∷ later))
+
+  abbrev left : Left
+  left = leftBy (s .transport) (s .rto) (history rows (begins s) (before ++ (submits-of q ∷ later)))
+
+  module _ (taken : submitsIt x (exchange rows here (submits-of q)) ≡ true) (u : Unended x (history rows then later)) where
+    left-timed : (p : StunRequestState) → requestOf (lookup x (now-at .requests)) ≡ some p → Timed (q .now) steps p
+    unfolding history
+    left-timed p g =
+        let a = request-accepted rows here (q .to) (q .now) (q .bytes) (formed rows x here q taken) (passes rows x here q taken) in
+        let y = a .message in
+        let b = submission (q .now) (y .«transaction_id») (y .integrity) (a .row) (length (q .bytes)) (q .to) (here .agent .rto) in
+        let z : key (y .«transaction_id») ≡ x = is-x rows x here q taken a in
+        let t : Timed (q .now) 0 (a .request) =
+        rw (a .request-is) (record { last = q .now; times = b .times-are; count = b .count-is; unstepped = λ n. refl }) in
+        let tr = s .transport in
+        let rto = s .rto in
+        let l = history rows then later in
+        let built = run-agent rows before (begins s) in
+        let agent = says-agent rows here (kindIn (submits-of q)) (q .bytes) in
+        let stood = ap requestOf (stands-at rows x here (q .to) (q .now) (q .bytes) (said rows here (submits-of q)) a z) in
+        let away : requestOf (lookup x (here .requests)) ≡ none = ap (λ (n : ℕ). requestOf (lookup n (here .requests))) (sym z) ∙ ap requestOf (a .new) in
+        let first : some (a .request) ≡ followed tr rto x (exchange rows here (submits-of q)) none =
+        sym stood ∙ followed-at rows x tr rto here (built .transport) (built .rto) (submits-of q) ∙ ap (followed tr rto x (exchange rows here (submits-of q))) away in
+        let through : followedThrough tr rto x (some (a .request)) l ≡ some p =
+        ap (λ (o : Option StunRequestState). followedThrough tr rto x o l) (sym stood)
+        ∙ sym (follows rows x tr rto later then (agent .transport ∙ built .transport) (agent .rto ∙ built .rto)) ∙ g in
+        subst (λ (o : Option StunRequestState). Timed (q .now) (0 + stepsThrough tr rto x o l) p) first
+        (timed-through tr rto x l (q .now) 0 (a .request) p t u through)
+
+    left-is : (y : ℕ) → left y ≡ requestOf (lookup y (now-at .requests))
+    unfolding run
+    left-is y =
+        sym (follows-fresh rows y s (before ++ (submits-of q ∷ later)))
+        ∙ ap (λ (w : World). requestOf (lookup y (w .requests))) (run-append rows (begins s) before (submits-of q ∷ later))
+
+    -- "RTT is now minus last send, counted only with a clock and step count 0": the sample of a response that is accepted at the clock `now`
+    -- is now minus the clock of the submission, and there is one exactly if the request made no step since.
+    module _ (from : Address) (now : ℕ) (m : List ℕ) where
+      abbrev response : Turn
+      response = with (call.HandleStunMessageWithTime from now) m
+
+      pub sample-is : respondsTo x m ≡ true → isYes (said rows now-at response .answer) ≡ true
+          → sampleOf left (exchange rows now-at response) ≡ cond (eqb steps 0) (Nanos (now - q .now)) Absent
+      sample-is answers yes-is = go (lookup x (now-at .requests)) refl
+        where
+          read : (p : StunRequestState) → left x ≡ some p → (y : Parsed)
+              → onMessage y false (λ z. isResponse (z .class) && eqb (key (z .«transaction_id»)) x) ≡ true
+              → onMessage y Absent (λ z. cond (isResponse (z .class)) (measured (some now) (left (key (z .«transaction_id»)))) Absent) ≡ rttOf now p
+          read p f (Good z) h =
+              let a = and-eq-true-iff (isResponse (z .class)) (eqb (key (z .«transaction_id»)) x) .0 h in
+              let i : left (key (z .«transaction_id»)) ≡ some p = ap left (eqb-true (key (z .«transaction_id»)) x (a .1)) ∙ f in
+              ap (λ (o : Option StunRequestState). cond (isResponse (z .class)) (measured (some now) o) Absent) i ∙ rw (a .0)
+          read p f Bad h = apart (sym h)
+
+          go : (f : Found) → lookup x (now-at .requests) ≡ f
+              → sampleOf left (exchange rows now-at response) ≡ cond (eqb steps 0) (Nanos (now - q .now)) Absent
+          go (At i p) f =
+              rw yes-is (read p (left-is x ∙ ap requestOf f) (messageOf m) answers ∙ timed-rtt (q .now) steps p (left-timed p (ap requestOf f)) now)
+          go Nothing f =
+              let z : endBy x (carries (receives from (some now))) m (said rows now-at response .answer) ≡ some by-response = rw (yes-is, answers) in
+              none-some (sym (traced rows x now-at m (carries (receives from (some now))) .unended (ap requestOf f)) ∙ z)

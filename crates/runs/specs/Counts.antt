@@ -59,21 +59,24 @@ isYes (answer.Average a) = false
 isYes (answer.Outstanding n) = false
 isYes (answer.Request to integrity) = false
 
--- The length of a transmission.
+-- A choice by the transmission that an answer hands out: identifier, row and length.
+abbrev pub onTransmission : {B : Type 0} → Answer → B → (TransactionId → ℕ → ℕ → B) → B
+onTransmission (answer.Refused n) b f = b
+onTransmission answer.Ok b f = b
+onTransmission answer.Yes b f = b
+onTransmission answer.No b f = b
+onTransmission answer.None b f = b
+onTransmission (answer.Send id to row len) b f = f id row len
+onTransmission (answer.Wait clock) b f = b
+onTransmission (answer.TimedOut id) b f = b
+onTransmission (answer.Cancelled id) b f = b
+onTransmission (answer.Stats s) b f = b
+onTransmission (answer.Average a) b f = b
+onTransmission (answer.Outstanding n) b f = b
+onTransmission (answer.Request to integrity) b f = b
+
 abbrev pub lengthOut : Answer → ℕ
-lengthOut (answer.Refused n) = 0
-lengthOut answer.Ok = 0
-lengthOut answer.Yes = 0
-lengthOut answer.No = 0
-lengthOut answer.None = 0
-lengthOut (answer.Send id to row len) = len
-lengthOut (answer.Wait clock) = 0
-lengthOut (answer.TimedOut id) = 0
-lengthOut (answer.Cancelled id) = 0
-lengthOut (answer.Stats s) = 0
-lengthOut (answer.Average a) = 0
-lengthOut (answer.Outstanding n) = 0
-lengthOut (answer.Request to integrity) = 0
+lengthOut a = onTransmission a 0 (λ id row len. len)
 
 -- The request that is reported timed out.
 abbrev pub timedOutIn : Answer → Option TransactionId

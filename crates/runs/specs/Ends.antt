@@ -14,10 +14,9 @@ use Rattle.model.specs.World.{World}
 use Rattle.model.specs.Calls.{submits, sends, receives, transmits, reports, Kind, carries, scans, names, meets, counts, onSome}
 use Rattle.model.specs.Accepts.{onMessage, isResponse, isFound}
 use Rattle.model.specs.declared.Answer.{Answer}
-use Rattle.model.specs.declared.Answer.the-variants as answer
 use Rattle.requests.specs.Search.{lookup}
 use Rattle.runs.specs.Run.{handsOutIt}
-use Rattle.runs.specs.Counts.{Exchange, isYes, one, total}
+use Rattle.runs.specs.Counts.{Exchange, isYes, timedOutIn, cancelledIn, one, total}
 
 -- ---- one call
 
@@ -34,7 +33,7 @@ submitsBy x (counts f) a = false
 abbrev pub submitsIt : ℕ → Exchange → Bool
 submitsIt x e = submitsBy x (e .about) (e .answer)
 
--- Nothing of x is sent: no transmission of it is handed out.
+-- A transmission of x is handed out.
 abbrev pub sendsIt : ℕ → Exchange → Bool
 sendsIt x e = handsOutIt x (e .answer)
 
@@ -48,20 +47,11 @@ pub data End : Type 0 where
 abbrev pub respondsTo : ℕ → List ℕ → Bool
 respondsTo x m = onMessage (messageOf m) false (λ y. isResponse (y .class) && eqb (key (y .«transaction_id»)) x)
 
+-- How `poll` reports x.
 abbrev pub reportEnd : ℕ → Answer → Option End
-reportEnd x (answer.Refused n) = none
-reportEnd x answer.Ok = none
-reportEnd x answer.Yes = none
-reportEnd x answer.No = none
-reportEnd x answer.None = none
-reportEnd x (answer.Send id to row len) = none
-reportEnd x (answer.Wait clock) = none
-reportEnd x (answer.TimedOut id) = cond (eqb (key id) x) (some by-timeout) none
-reportEnd x (answer.Cancelled id) = cond (eqb (key id) x) (some by-cancel) none
-reportEnd x (answer.Stats s) = none
-reportEnd x (answer.Average a) = none
-reportEnd x (answer.Outstanding n) = none
-reportEnd x (answer.Request to integrity) = none
+reportEnd x a =
+    onSome (timedOutIn a) (onSome (cancelledIn a) none (λ id. cond (eqb (key id) x) (some by-cancel) none))
+    (λ id. cond (eqb (key id) x) (some by-timeout) none)
 
 -- A response to x is accepted, or `poll` reports x.
 abbrev pub endBy : ℕ → Kind → List ℕ → Answer → Option End
@@ -87,7 +77,8 @@ pub data Lives (x : ℕ) : Bool → List Exchange → Bool → Type 0 where
   accepted : {e : Exchange} {l : List Exchange} {b : Bool} → submitsIt x e ≡ true → Lives x true l b → Lives x false (e ∷ l) b
   -- outstanding: not accepted a second time
   stays : {e : Exchange} {l : List Exchange} {b : Bool} → submitsIt x e ≡ false → endOf x e ≡ none → Lives x true l b → Lives x true (e ∷ l) b
-  ends : {e : Exchange} {l : List Exchange} {b : Bool} (how : End) → submitsIt x e ≡ false → endOf x e ≡ some how → Lives x false l b → Lives x true (e ∷ l) b
+  ends : {e : Exchange} {l : List Exchange} {b : Bool} (how : End) → submitsIt x e ≡ false → endOf x e ≡ some how → Lives x false l b
+      → Lives x true (e ∷ l) b
 
 -- Whether x is in the table.
 abbrev pub inTable : ℕ → World → Bool

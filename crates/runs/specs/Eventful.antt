@@ -36,6 +36,10 @@ agent = record {
 abbrev pub second : Submission
 second = record { to = peer 8; now = 0; bytes = message 0x0001 2 (0 ∷ 8 ∷ 0 ∷ 0 ∷ []) }
 
+-- The request 3.
+abbrev pub third : Submission
+third = record { to = peer 9; now = 0; bytes = request 3 }
+
 -- An error response.
 abbrev pub error : ℕ → List ℕ
 error n = message 0x0111 n []
@@ -45,7 +49,7 @@ calls =
     -- three requests, and one that the table has no row for
     with (call.SendRequest (peer 9) 0) (request 1)
     ∷ submits second
-    ∷ with (call.SendRequest (peer 9) 0) (request 3)
+    ∷ submits third
     ∷ with (call.SendRequest (peer 9) 0) (request 4)
     -- other messages out and in
     ∷ with (call.Send (peer 9)) (indication 9)
@@ -122,7 +126,18 @@ pub record Values : Type 0 where
   -- the record, and the same numbers by the calls and answers
   pub record-is : run 3 (begins agent) calls .stats ≡ figures
   pub counts-are :
-      map (λ f. total f seen) (requestsSent ∷ requestsReceived ∷ responsesSent ∷ responsesReceived ∷ indicationsSent ∷ indicationsReceived ∷ timedOut ∷ cancelled ∷ bytesSent ∷ bytesReceived ∷ [])
+      map (λ f. total f seen) (
+      requestsSent
+      ∷ requestsReceived
+      ∷ responsesSent
+      ∷ responsesReceived
+      ∷ indicationsSent
+      ∷ indicationsReceived
+      ∷ timedOut
+      ∷ cancelled
+      ∷ bytesSent
+      ∷ bytesReceived
+      ∷ [])
       ≡ (6 ∷ 1 ∷ 1 ∷ 3 ∷ 1 ∷ 1 ∷ 1 ∷ 1 ∷ 188 ∷ 100 ∷ [])
   pub samples-are : samples (agent .transport) (agent .rto) seen ≡ (7 ∷ 11 ∷ [])
   pub in-the-table : length (run 3 (begins agent) calls .requests) ≡ 1

@@ -8,7 +8,6 @@ use mathlib.Core.Option.{Option, none, some}
 use lib.Dec.{eqb, leb}
 use Rattle.message.specs.Head.{key}
 use Rattle.message.specs.Attributes.{messageOf}
-use Rattle.message.specs.declared.TransactionId.{TransactionId}
 use Rattle.waits.specs.declared.RequestRto.{RequestRto}
 use Rattle.waits.specs.declared.Transport.{Transport}
 use Rattle.request.specs.Request.{submitted, silenced, cancelled, configured, transmitOf}
@@ -19,24 +18,8 @@ use Rattle.model.specs.Accepts.{onMessage}
 use Rattle.model.specs.Says.{numberIn}
 use Rattle.model.specs.declared.Answer.{Answer}
 use Rattle.model.specs.declared.Answer.the-variants as answer
-use Rattle.runs.specs.Counts.{Exchange, isYes}
+use Rattle.runs.specs.Counts.{Exchange, isYes, onTransmission}
 use Rattle.runs.specs.Ends.{respondsTo, reportEnd}
-
--- A choice by the transmission that an answer hands out: identifier, row and length.
-abbrev pub onTransmission : {B : Type 0} → Answer → B → (TransactionId → ℕ → ℕ → B) → B
-onTransmission (answer.Refused n) b f = b
-onTransmission answer.Ok b f = b
-onTransmission answer.Yes b f = b
-onTransmission answer.No b f = b
-onTransmission answer.None b f = b
-onTransmission (answer.Send id to row len) b f = f id row len
-onTransmission (answer.Wait clock) b f = b
-onTransmission (answer.TimedOut id) b f = b
-onTransmission (answer.Cancelled id) b f = b
-onTransmission (answer.Stats s) b f = b
-onTransmission (answer.Average a) b f = b
-onTransmission (answer.Outstanding n) b f = b
-onTransmission (answer.Request to integrity) b f = b
 
 -- `poll_transmit` "goes up the identifiers and stops at the first request that goes out": it reached x if none went out, or one that isn't
 -- before x.

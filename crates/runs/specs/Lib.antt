@@ -1,4 +1,5 @@
--- Runs, rounds and demand 3; each file cites only those above it.
+-- Runs, rounds and demand 3; what the counters, the ends of requests and the bytes handed out mean over a run. Each file cites only those
+-- above it.
 pub mod Run
 pub mod Round
 pub mod Times

@@ -4,7 +4,7 @@
 -- request's submission, and that there is one exactly if the request made no step since, is a theorem, `sample-is`.
 use Prim.Native.Nat.{ℕ, _+_}
 use mathlib.Core.Path.{_≡_}
-use mathlib.Core.Bool.{Bool, cond, not, _&&_}
+use mathlib.Core.Bool.{cond, not, _&&_}
 use mathlib.Core.List.{List, [], _∷_, _++_}
 use mathlib.Core.Option.{Option, none}
 use lib.ListN.{length}
@@ -22,11 +22,14 @@ use Rattle.model.specs.Calls.{Passage, submits, sends, receives, transmits, rep
 use Rattle.model.specs.Accepts.{onMessage, isResponse}
 use Rattle.model.specs.declared.Answer.{Answer}
 use Rattle.runs.specs.Counts.{Exchange, isYes, one, stopped, Counters}
-use Rattle.runs.specs.Followed.{reaches, followed}
+use Rattle.runs.specs.Followed.{reaches, followed, followedThrough}
 
 -- The requests as the calls so far left them, by identifier.
 abbrev pub Left : Type 0
 Left = ℕ → Option StunRequestState
+
+abbrev pub leftBy : Transport → RequestRto → List Exchange → Left
+leftBy tr rto l x = followedThrough tr rto x none l
 
 -- The sample of one call: an accepted response with a clock, whose request made no step.
 abbrev pub measured : Option ℕ → Option StunRequestState → Rtt
@@ -77,18 +80,14 @@ pub record Accounts (tr : Transport) (rto : RequestRto) (l : List Exchange) (s :
   pub round-trips : RoundTrips (samples tr rto l) s
 
 -- The steps that the request x makes, with or without sending: one at each `poll_transmit` that reaches it while it is due and not cancelled.
-module _ (tr : Transport) (rto : RequestRto) (x : ℕ) where
-  abbrev pub dueAt : ℕ → StunRequestState → Bool
-  dueAt now r = not (r .«recv_cancelled») && isDue tr now r
+abbrev pub stepsBy : Transport → ℕ → Kind → Answer → StunRequestState → ℕ
+stepsBy tr x (carries p) a r = 0
+stepsBy tr x (scans transmits now) a r = one (reaches x a && (not (r .«recv_cancelled») && isDue tr now r))
+stepsBy tr x (scans reports now) a r = 0
+stepsBy tr x (names id wish) a r = 0
+stepsBy tr x (meets addr y) a r = 0
+stepsBy tr x (counts f) a r = 0
 
-  abbrev pub stepsBy : Kind → Answer → StunRequestState → ℕ
-  stepsBy (carries p) a r = 0
-  stepsBy (scans transmits now) a r = one (reaches x a && dueAt now r)
-  stepsBy (scans reports now) a r = 0
-  stepsBy (names id wish) a r = 0
-  stepsBy (meets addr y) a r = 0
-  stepsBy (counts f) a r = 0
-
-  abbrev pub stepsThrough : Option StunRequestState → List Exchange → ℕ
-  stepsThrough o [] = 0
-  stepsThrough o (e ∷ l) = onSome o 0 (stepsBy (e .about) (e .answer)) + stepsThrough (followed tr rto x e o) l
+abbrev pub stepsThrough : Transport → RequestRto → ℕ → Option StunRequestState → List Exchange → ℕ
+stepsThrough tr rto x o [] = 0
+stepsThrough tr rto x o (e ∷ l) = onSome o 0 (stepsBy tr x (e .about) (e .answer)) + stepsThrough tr rto x (followed tr rto x e o) l

@@ -9,6 +9,7 @@ import unittest
 TOOLS = pathlib.Path(__file__).resolve().parent.parent
 sys.path.insert(0, str(TOOLS))
 
+import bench
 import recordedtext
 import tracetext
 
@@ -213,6 +214,15 @@ class RecordedCases(unittest.TestCase):
         for part, wrong in (("# It shows one.\n", ""), ("rust", "who"), ("1 ref", "2 ref")):
             with self.assertRaises(ValueError):
                 recordedtext.read(good.replace(part, wrong))
+
+
+class TheProgramsInput(unittest.TestCase):
+    def test_it_is_the_recorded_whole_example(self):
+        cases = recordedtext.read((bench.RECORDED / "document.txt").read_text())
+        whole = next(case for case in cases if case.name == "whole-example")
+        program = bench.ROOT / "crates" / "purlanchor"
+        self.assertEqual((program / "stdin").read_bytes(), whole.trace)
+        self.assertEqual((program / "stdout").read_text(), recordedtext.lines(whole))
 
 
 if __name__ == "__main__":

@@ -1,3 +1,7 @@
+// Copyright (C) 2020 Matthew Waters <matthew@centricular.com>
+// SPDX-License-Identifier: MIT OR Apache-2.0
+// ported to Rattle, changed
+//
 // The public entry of the port: a call of the agent on all that the host lends, the same for callers that hold the peers and the
 // statistics by value, and the start of a fresh agent. The Rust's methods of `StunAgent` are functions here, since its type is another
 // crate's. What takes a list of addresses or the statistics record by reference is thin, free of branches, and proved by a walk of its

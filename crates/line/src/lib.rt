@@ -22,7 +22,6 @@ pub enum Reply {
 }
 
 fn put(out: &mut [u8], at: usize, b: u8) -> usize
-    requires { ⌜ at ≤ length (now out) + 1 ⌝ }
     ensures { λ r. ⌜ Puts (now (out .entry)) at (b ∷ []) (now (out .exit)) r ⌝ }
 {
     if at < out.len() {
@@ -54,7 +53,6 @@ fn digit(d: u64) -> u8
 
 // The shortest decimal of n.
 fn put_decimal(out: &mut [u8], at: usize, n: u64) -> usize
-    requires { ⌜ at ≤ length (now out) + 1 ⌝ }
     ensures { λ r. ⌜ Puts (now (out .entry)) at (decimalOf n) (now (out .exit)) r ⌝ }
 {
     if n < 10 {
@@ -198,7 +196,6 @@ fn put_reply(out: &mut [u8], at: usize, reply: Reply) -> usize
 
 // A whole line: its number, the reply, the line feed.
 pub fn put_line(out: &mut [u8], at: usize, number: u64, reply: Reply) -> usize
-    requires { ⌜ at ≤ length (now out) + 1 ⌝ }
     ensures { λ r. ⌜ Puts (now (out .entry)) at (lineOf number reply) (now (out .exit)) r ⌝ }
 {
     let a = put_decimal(out, at, number);

@@ -332,7 +332,7 @@ pub fn record_of(rest: &[u8]) -> Record
     }
 }
 
-// Whether more bytes could make the start of these a record: true of no whole one.
+// Whether the head of the record, or the body that it announces, is cut short: false of a whole one.
 pub fn short_of(rest: &[u8]) -> bool
     ensures { λ r. ⌜ r ≡ shortOf (now (rest .entry)) ⌝ }
 {

@@ -1,5 +1,5 @@
 pub mod Steps
-mod Turns
+pub mod Turns
 mod Fits
 mod Outcome
 mod Example

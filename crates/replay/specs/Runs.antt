@@ -18,6 +18,7 @@ use Rattle.model.specs.Says.{Said, says}
 use Rattle.model.specs.declared.StunAgent.{StunAgent}
 use Rattle.model.specs.declared.Built.{Built}
 use Rattle.model.specs.declared.Built.the-variants as built
+use Rattle.model.specs.declared.Call.{Call}
 use Rattle.model.specs.declared.Answer.the-variants.{Refused, Ok}
 use Rattle.record.specs.Records.{recordOf}
 use Rattle.record.specs.declared.Record.{Record}
@@ -77,11 +78,14 @@ messageIn s Broken = []
 messageIn s (Settings b end) = []
 messageIn s (Whole call start end) = take (end - start) (drop start s)
 
--- "a first one that isn't kind 1" is bad
+-- A record, by what a call answers and leaves; "a first one that isn't kind 1" is bad.
+abbrev pub turnWith : (World → Call → List ℕ → Said) → Stand → List ℕ → Record → Played
+turnWith f st s Broken = stop st
+turnWith f st s (Settings b end) = made st (buildOf b) end
+turnWith f st s (Whole call start end) = cond (st .on) (stepped (f (st .world) call (messageIn s (Whole call start end))) end) (stop st)
+
 abbrev pub turnBy : Stand → List ℕ → Record → Played
-turnBy st s Broken = stop st
-turnBy st s (Settings b end) = made st (buildOf b) end
-turnBy st s (Whole call start end) = cond (st .on) (stepped (says 32 (st .world) call (take (end - start) (drop start s))) end) (stop st)
+turnBy st s r = turnWith (λ w c m. says 32 w c m) st s r
 
 -- The record at the start of what is left of a trace.
 unfoldable pub turnOf : Stand → List ℕ → Played

@@ -20,17 +20,36 @@ struct Part {
     more: bool,
 }
 
+// What a read left: the bytes that are there now, and whether it failed.
+struct Filled {
+    end: usize,
+    failed: bool,
+}
+
 // Reads once behind what is there, and says so where it can't.
-fn fill(fd: i32, buf: &mut [u8], have: usize) -> usize
+fn fill(fd: i32, buf: &mut [u8], have: usize) -> Filled
     requires { ⌜ have ≤ length (now buf) ⌝ }
-    ensures { λ r. ⌜ (have ≤ r) × (r ≤ length (now (buf .exit))) ⌝ }
+    ensures { λ r. ⌜ (have ≤ r .end) × (r .end ≤ length (now (buf .exit))) ⌝ }
 {
     let got = libc::read(fd, &mut buf[have..]);
-    if got < 0 {
+    let failed = got < 0;
+    if failed {
         os::fail(b"purlanchor: the trace can't be read");
     }
     let n = io::count(got, &buf[have..]);
-    have + n
+    Filled {
+        end: have + n,
+        failed: failed,
+    }
+}
+
+// Writes the lines, and says so where it can't.
+fn write(lines: &[u8]) -> bool {
+    let written = io::write_all(STDOUT_FILENO, lines);
+    if !written {
+        os::fail(b"purlanchor: the lines can't be written");
+    }
+    written
 }
 
 // A record that more input could make whole is left, unless there is no more.
@@ -117,12 +136,23 @@ fn slide(buf: &mut [u8], from: usize, end: usize) -> usize
     n
 }
 
-// At the end of the input a part of which nothing was used is the last.
-fn goes_on(more: bool, written: bool, last: bool, used: usize) -> bool {
+fn is_last(failed: bool, nothing: bool) -> bool {
+    if failed {
+        return false;
+    }
+    nothing
+}
+
+// At the end of the input a part of which nothing was used is the last. Behind a read that failed there is no input, but no end either:
+// what is left of a record then is no bad one.
+fn goes_on(more: bool, written: bool, failed: bool, last: bool, used: usize) -> bool {
     if !more {
         return false;
     }
     if !written {
+        return false;
+    }
+    if failed {
         return false;
     }
     if last {
@@ -152,19 +182,20 @@ fn some(
     requires { ⌜ (have ≤ length (now buf)) × (size ≤ length (now table)) ⌝ }
     ensures { λ r. ⌜ r .have ≤ length (now (buf .exit)) ⌝ }
 {
-    let end = fill(fd, buf, have);
-    let last = end == have;
+    let filled = fill(fd, buf, have);
+    let end = filled.end;
+    let last = is_last(filled.failed, end == have);
     let p = turns(standing, number, &buf[..end], table, store, out, last);
     let at = p.at;
     let put = p.put;
-    let written = io::write_all(STDOUT_FILENO, &out[..put]);
+    let written = write(&out[..put]);
     let left = slide(buf, at, end);
     let then = p.standing;
     Kept {
         standing: then,
         number: p.number,
         have: left,
-        more: goes_on(p.more, written, last, at),
+        more: goes_on(p.more, written, filled.failed, last, at),
     }
 }
 
@@ -200,6 +231,10 @@ fn open() -> i32 {
     }
     let mut name = io::buffer();
     let n = os::arg(1, &mut name);
+    if os::errno() != 0 {
+        os::fail(b"purlanchor: the trace's name");
+        return -1;
+    }
     let fd = os::open_read(&name[..n]);
     if fd < 0 {
         io::write_all(STDERR_FILENO, b"purlanchor: ");

@@ -70,7 +70,7 @@ pub one-turn : {x : Standing} {s t store : List ℕ} {r q : Turn} {t′ t″ sto
 one-turn {x} {s} {t} {store} {r} {q} {t′} {t″} {store′} {store″} a b =
     let e : playedOf r t′ store′ ≡ playedOf q t″ store″ = a .says ∙ sym (b .says) in (
       same-turn (ap (λ (y : Played). y .stand .on) e) (ap (λ (y : Played). y .stand .world .agent) e) (ap (λ (y : Played). y .stand .world .peers) e)
-      (ap (λ (y : Played). y .stand .world .stats) e) (ap (λ (y : Played). y .reply) e) (ap (λ (y : Played). y .next) e) (ap (λ (y : Played). y .more) e),
+          (ap (λ (y : Played). y .stand .world .stats) e) (ap (λ (y : Played). y .reply) e) (ap (λ (y : Played). y .next) e) (ap (λ (y : Played). y .more) e),
       a .words ∙ sym (b .words),
       ap (λ (y : Played). y .stand .world .store) e,
     )

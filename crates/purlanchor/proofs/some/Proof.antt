@@ -9,28 +9,31 @@ use Rattle.purlanchor.proofs.some.Tie as tie
 fill-requires : tie.Need-fill-requires
 fill-requires c κs = search needs
 
+is-last-requires : tie.Need-is-last-requires
+is-last-requires c κs = search needs
+
 slice-reshare-prefix-turns : tie.Need-slice-reshare-prefix-turns
 slice-reshare-prefix-turns c = search needs
 
 slice-aggregate-turns : tie.Need-slice-aggregate-turns
-slice-aggregate-turns c = sym (length-take-le _ _ (c .before .before .before .fill .ensures .1))
+slice-aggregate-turns c = sym (length-take-le _ _ (c .before .before .before .before .fill .ensures .1))
 
 turns-requires : tie.Need-turns-requires
 turns-requires c κs = search needs
 
-slice-reshare-prefix-write-all : tie.Need-slice-reshare-prefix-write-all
-slice-reshare-prefix-write-all c = search needs
+slice-reshare-prefix-write : tie.Need-slice-reshare-prefix-write
+slice-reshare-prefix-write c = search needs
 
-slice-aggregate-write-all : tie.Need-slice-aggregate-write-all
-slice-aggregate-write-all c = sym (length-take-le _ _ (c .before .before .before .before .before .before .before .turns .ensures .1))
+slice-aggregate-write : tie.Need-slice-aggregate-write
+slice-aggregate-write c = sym (length-take-le _ _ (c .before .before .before .before .before .before .before .turns .ensures .1))
 
-write-all-requires : tie.Need-write-all-requires
-write-all-requires c κs = search needs
+write-requires : tie.Need-write-requires
+write-requires c κs = search needs
 
 slide-requires : tie.Need-slide-requires
 slide-requires c κs = (
-  subst (λ (n : ℕ). c .before .before .before .before .before .before .before .before .before .turns .result .at ≤ n) (length-take-le _ _ (c .before .before .before .before .before .before .before .before .before .before .before .before .before .before .before .before .fill .ensures .1)) (c .before .before .before .before .before .before .before .before .before .turns .ensures .0),
-  c .before .before .before .before .before .before .before .before .before .before .before .before .before .before .before .before .fill .ensures .1,
+  subst (λ (n : ℕ). c .before .before .before .before .before .before .before .before .before .turns .result .at ≤ n) (length-take-le _ _ (c .before .before .before .before .before .before .before .before .before .before .before .before .before .before .before .before .before .fill .ensures .1)) (c .before .before .before .before .before .before .before .before .before .turns .ensures .0),
+  c .before .before .before .before .before .before .before .before .before .before .before .before .before .before .before .before .before .fill .ensures .1,
 )
 
 goes-on-requires : tie.Need-goes-on-requires
@@ -56,12 +59,13 @@ some-spec =
     tie.close
     (tie.spec
     fill-requires
+    is-last-requires
     slice-reshare-prefix-turns
     slice-aggregate-turns
     turns-requires
-    slice-reshare-prefix-write-all
-    slice-aggregate-write-all
-    write-all-requires
+    slice-reshare-prefix-write
+    slice-aggregate-write
+    write-requires
     slide-requires
     goes-on-requires
     same-length

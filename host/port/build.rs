@@ -7,7 +7,7 @@ fn main() {
     let library = folder.join("libreplay.a");
     println!("cargo:rerun-if-changed={}", library.display());
     if !library.is_file() {
-        println!("cargo:error={} isn't there: `rt staticlib replay` at the root of the repository makes it", library.display());
+        eprintln!("{} isn't there: `rt staticlib replay` at the root of the repository makes it", library.display());
         std::process::exit(1);
     }
     println!("cargo:rustc-link-search=native={}", folder.display());

@@ -16,12 +16,6 @@ pub const TIME_LIMIT: Duration = Duration::from_secs(20);
 /// How often it is looked after.
 const LOOK: Duration = Duration::from_micros(100);
 
-/// No line is longer: a number of 20 digits, `stats` and 14 such numbers.
-const LONGEST_LINE: usize = 321;
-
-/// No record is shorter than its frame.
-const SHORTEST_RECORD: usize = 5;
-
 /// Something that plays traces.
 pub enum Program {
     /// Words of a command line. The trace is its standard input, and stands in `scratch`, whose name
@@ -75,7 +69,7 @@ fn ended(mut child: Child) -> std::io::Result<Option<ExitStatus>> {
 }
 
 fn linked_lines(replay: Replay, trace: &[u8]) -> Result<String, String> {
-    let mut out = vec![0xAA; (trace.len() / SHORTEST_RECORD + 1) * LONGEST_LINE];
+    let mut out = vec![0xAA; records::room_for(trace)];
     let length = replay(trace, &mut out);
     if out.len() < length || out[length..].iter().any(|&byte| byte != 0) {
         return Err(format!("{length} bytes of {}, or no zeros behind them", out.len()));

@@ -7,12 +7,6 @@ mod linked {
     }
 }
 
-/// No line is longer: `LONGEST_LINE` of crates/line.
-const LONGEST_LINE: usize = 321;
-
-/// No record is shorter than its frame.
-const SHORTEST_RECORD: usize = 5;
-
 /// Plays the trace: the lines that fit whole into `out`, zeros behind them, and how many bytes the lines are.
 pub fn replay(trace: &[u8], out: &mut [u8]) -> usize {
     // SAFETY: both pointers are to live slices of the lengths given, and since one is lent for writing the two don't overlap.
@@ -21,7 +15,7 @@ pub fn replay(trace: &[u8], out: &mut [u8]) -> usize {
 
 /// All lines of a trace.
 pub fn lines(trace: &[u8]) -> Vec<u8> {
-    let mut out = vec![0; (trace.len() / SHORTEST_RECORD + 1) * LONGEST_LINE];
+    let mut out = vec![0; records::room_for(trace)];
     let length = replay(trace, &mut out);
     out.truncate(length);
     out

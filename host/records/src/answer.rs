@@ -70,6 +70,12 @@ impl fmt::Display for Hex<'_> {
     }
 }
 
+/// Bytes enough for all lines of a trace: no record is shorter than its frame of 5 bytes, and no line longer than
+/// a number of 20 digits, `stats`, 14 such numbers and a line feed.
+pub fn room_for(trace: &[u8]) -> usize {
+    (trace.len() / 5 + 1) * 321
+}
+
 /// The lines for these answers, numbered from 1.
 pub fn lines<'a>(answers: impl IntoIterator<Item = &'a Answer>) -> String {
     let numbered = answers.into_iter().enumerate();

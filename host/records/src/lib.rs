@@ -6,7 +6,7 @@ mod body;
 mod message;
 
 pub use address::Address;
-pub use answer::{lines, Answer};
+pub use answer::{lines, room_for, Answer};
 pub use body::{Read, Record, Rto, BODY_LIMIT, MARK};
 pub use message::{
     attribute, fingerprint, message, Attribute, Class, Head, COOKIE, FINGERPRINT, INTEGRITY, INTEGRITY_SHA256,

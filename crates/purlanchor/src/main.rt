@@ -85,10 +85,10 @@ fn turns(
             break;
         }
         let t = replay::next_turn(standing, &part[at..], table, store);
-        let reply = t.reply;
-        put = line::put_line(out, put, number, reply);
         let next = t.standing;
         standing = next;
+        let reply = t.reply;
+        put = line::put_line(out, put, number, reply);
         if !t.more {
             return Part {
                 standing: standing,

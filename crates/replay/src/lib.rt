@@ -98,26 +98,27 @@ pub fn next_turn(standing: Standing, rest: &[u8], table: &mut [u64], store: &mut
             },
         },
         Record::Whole { call, start, end } => {
-            if !standing.on {
-                return Turn {
+            if standing.on {
+                let held = standing.held;
+                let s = entry::step(held, call, &rest[start..end], table, store);
+                let then = s.held;
+                let answer = s.answer;
+                Turn {
+                    standing: Standing {
+                        on: true,
+                        held: then,
+                    },
+                    reply: Reply::Told(answer),
+                    next: end,
+                    more: true,
+                }
+            } else {
+                Turn {
                     standing: standing,
                     reply: Reply::Bad,
                     next: 0,
                     more: false,
-                };
-            }
-            let held = standing.held;
-            let s = entry::step(held, call, &rest[start..end], table, store);
-            let then = s.held;
-            let answer = s.answer;
-            Turn {
-                standing: Standing {
-                    on: true,
-                    held: then,
-                },
-                reply: Reply::Told(answer),
-                next: end,
-                more: true,
+                }
             }
         }
     }
@@ -134,6 +135,8 @@ fn lines(trace: &[u8], table: &mut [u64], store: &mut [u8], out: &mut [u8]) -> u
     let mut put = 0;
     while at < trace.len() {
         let t = next_turn(standing, &trace[at..], table, store);
+        let next = t.standing;
+        standing = next;
         let reply = t.reply;
         let end = line::put_line(out, put, number, reply);
         if out.len() < end {
@@ -143,8 +146,6 @@ fn lines(trace: &[u8], table: &mut [u64], store: &mut [u8], out: &mut [u8]) -> u
         if !t.more {
             return put;
         }
-        let next = t.standing;
-        standing = next;
         at += t.next;
         number += 1;
     }

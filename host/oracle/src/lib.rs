@@ -12,7 +12,7 @@ mod rust_agent;
 
 use domain::Domain;
 use records::{Answer, Record};
-use rust_agent::RustAgent;
+pub use rust_agent::RustAgent;
 use std::panic::{catch_unwind, AssertUnwindSafe};
 
 /// Who decided a line.
@@ -55,7 +55,7 @@ impl std::fmt::Display for Disagreement {
 pub struct Oracle<'a> {
     replay: reading::Replay<'a>,
     domain: Domain,
-    rust: Option<RustAgent>,
+    rust: Option<RustAgent<true>>,
     number: usize,
 }
 

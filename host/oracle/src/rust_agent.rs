@@ -13,16 +13,16 @@ use stun_types::TransportType;
 /// The agent's own address; no line shows it, every transmission must come from it.
 const LOCAL: SocketAddr = SocketAddr::V4(SocketAddrV4::new(Ipv4Addr::new(192, 0, 2, 200), 40_000));
 
-/// The Rust agent, and what was submitted to it.
-pub struct RustAgent {
+/// The Rust agent; with CHECKED, each transmission is held against what was submitted.
+pub struct RustAgent<const CHECKED: bool> {
     agent: StunAgent,
-    /// Bytes and address of every request that was sent, by identifier.
+    /// Bytes and address of every request that was sent, by identifier; nothing unless CHECKED.
     submitted: BTreeMap<Id, (Vec<u8>, SocketAddr)>,
 }
 
-impl RustAgent {
+impl<const CHECKED: bool> RustAgent<CHECKED> {
     /// A fresh agent; its settings are given outright.
-    pub fn new(tcp: bool, statistics: bool, rto: &Rto) -> RustAgent {
+    pub fn new(tcp: bool, statistics: bool, rto: &Rto) -> Self {
         let transport = if tcp { TransportType::Tcp } else { TransportType::Udp };
         let agent = StunAgent::builder(transport, LOCAL)
             .stats(statistics)
@@ -71,8 +71,10 @@ impl RustAgent {
             Err(error) => panic!("send_request: {error:?}"),
         };
         let id = identifier(transmit.data.as_ref());
-        check(&transmit, transport, message, to);
-        self.submitted.insert(id, (message.to_vec(), to));
+        if CHECKED {
+            check(&transmit, transport, message, to);
+            self.submitted.insert(id, (message.to_vec(), to));
+        }
         Answer::Send { id, length: message.len() }
     }
 
@@ -81,7 +83,8 @@ impl RustAgent {
         let transport = self.agent.transport();
         // `send` doesn't look at its clock, and kind 3 has none.
         match self.agent.send(message, to, Instant::from_nanos(0)) {
-            Ok(transmit) => check(&transmit, transport, message, to),
+            Ok(transmit) if CHECKED => check(&transmit, transport, message, to),
+            Ok(_) => {}
             Err(error) => panic!("send: {error:?}"),
         }
         Answer::Ok
@@ -103,9 +106,11 @@ impl RustAgent {
             return Answer::Nothing;
         };
         let id = identifier(transmit.data);
-        let (message, to) = &self.submitted[&id];
-        check(&transmit, transport, message, *to);
-        Answer::Send { id, length: message.len() }
+        if CHECKED {
+            let (message, to) = &self.submitted[&id];
+            check(&transmit, transport, message, *to);
+        }
+        Answer::Send { id, length: transmit.data.len() }
     }
 
     fn poll(&mut self, clock: u64) -> Answer {
@@ -138,7 +143,9 @@ impl RustAgent {
         let Some(request) = self.agent.request_transaction(TransactionId(*id)) else {
             return Answer::Refused(9);
         };
-        assert_eq!(request.peer_address(), self.submitted[id].1, "the query's address");
+        if CHECKED {
+            assert_eq!(request.peer_address(), self.submitted[id].1, "the query's address");
+        }
         match request.integrity() {
             None => Answer::Nothing,
             Some(IntegrityAlgorithm::Sha1) => Answer::Sha1,

@@ -4,9 +4,9 @@
 --     served-as-model                     a session is a run of the model, from the fresh agent
 --     seen-is, sent-is, timed-out-is      what the host saw is the run's history, with its sends and its timeout
 use Prim.Native.Nat.{ℕ, _≤_}
-use mathlib.Core.Path.{_≡_, refl, sym, ap, _∙_}
+use mathlib.Core.Path.{_≡_, refl, ap, _∙_}
 use mathlib.Core.Bool.{Bool, true, false}
-use mathlib.Core.List.{List, [], _∷_, _++_}
+use mathlib.Core.List.{List, [], _∷_}
 use lib.ListN.{length}
 use native.Mathlib.Omega.{arith}
 use Rattle.waits.specs.Waits.{withinLimits}

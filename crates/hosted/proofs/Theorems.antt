@@ -3,11 +3,12 @@
 --     session-conserved    requests sent are received, timed out, cancelled or in the table
 --     session-fate         a request that is accepted ends once, or is in the table
 --     session-delivers     what is handed out for it is its message, from its acceptance to its end
+--     session-world        the submission and the calls after it are the model's
 --     session-sends, session-timeouts    its sends and its timeout, as the host saw them, are the run's
 --     session-demand3      demand 3 of two sessions. That they play rounds is said by `Life` of crate `runs`; its last sentence is about one
 --                          run, and stands there.
 use Prim.Native.Nat.{ℕ}
-use mathlib.Core.Path.{_≡_, refl, sym, ap, subst, _∙_}
+use mathlib.Core.Path.{_≡_, sym, ap, subst, _∙_}
 use mathlib.Core.Bool.{true}
 use mathlib.Core.List.{List, _∷_}
 use native.Mathlib.Omega.{arith}
@@ -17,7 +18,7 @@ use Rattle.model.specs.Says.{Said}
 use Rattle.model.specs.Runs.{Turn}
 use Rattle.model.specs.declared.StunAgentBuilder.{StunAgentBuilder}
 use Rattle.model.specs.declared.Answer.{Answer}
-use Rattle.runs.specs.Run.{said, run, sends, timeouts}
+use Rattle.runs.specs.Run.{said, run}
 use Rattle.runs.specs.Round.{Step, MoreRounds}
 use Rattle.runs.specs.Demand.{Start, begins, Submission, submits, Life, sendsOf, timeoutOf}
 use Rattle.runs.specs.Whole.{Demand3}
@@ -81,15 +82,16 @@ module _ (x : ℕ) (b : StunAgentBuilder) (was : StunAgentStats) (o : Owned) (be
       (fate 32 x (startOf b was o) before (submits q) later (subst (λ (w : World). submitsIt x (exchange 32 w (submits q)) ≡ true) (first .world-is) taken)) in
       subst (λ (w : World). Fate x (sights later (s .replies)) w) (sym (m .world-is)) (subst (λ (l : List Exchange). Fate x l (run 32 v later)) (sym (seen-is m)) f)
 
+  -- What the host owns at the end.
+  pub session-world : AsModel (run 32 (begins (startOf b was o)) before) (submits q ∷ later) (s .answer ∷ s .replies) (s .last)
+  session-world = subst (λ (w : World). AsModel w (submits q ∷ later) (s .answer ∷ s .replies) (s .last)) (first .world-is) rest
+
   pub session-sends : sentIn x (saw s) ≡ sendsOf 32 x (startOf b was o) q before later
-  session-sends =
-      ap (sentIn x) (seen-is rest) ∙ sent-is 32 x (submits q ∷ later) (worldIn (s .here))
-      ∙ ap (λ (w : World). sends 32 x w (submits q ∷ later)) (first .world-is)
+  session-sends = ap (sentIn x) (seen-is session-world) ∙ sent-is 32 x (submits q ∷ later) (run 32 (begins (startOf b was o)) before)
 
   pub session-timeouts : timedOutAt x (saw s) ≡ timeoutOf 32 x (startOf b was o) q before later
   session-timeouts =
-      ap (timedOutAt x) (seen-is rest) ∙ timed-out-is 32 x (submits q ∷ later) (worldIn (s .here))
-      ∙ ap (λ (w : World). timeouts 32 x w (submits q ∷ later)) (first .world-is)
+      ap (timedOutAt x) (seen-is session-world) ∙ timed-out-is 32 x (submits q ∷ later) (run 32 (begins (startOf b was o)) before)
 
 -- ---- two sessions
 

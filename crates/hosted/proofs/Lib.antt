@@ -3,3 +3,4 @@ pub mod Session
 pub mod Theorems
 mod Still
 pub mod Unset
+pub mod Row

@@ -98,6 +98,6 @@ seen-is {w} {ts} m = ap (sights ts) (m .answers-are) ∙ sights-are 32 ts w
 
 -- ---- a session
 
-pub served-as-model : (b : StunAgentBuilder) (was : StunAgentStats) (o : Owned) (ts : List Turn) (l : List Answer) (o′ : Owned) → Session b was o ts l o′
-    → AsModel (begins (startOf b was o)) ts l o′
+pub served-as-model : (b : StunAgentBuilder) (was : StunAgentStats) (o : Owned) (ts : List Turn) (l : List Answer) (o′ : Owned)
+    → Session b was o ts l o′ → AsModel (begins (startOf b was o)) ts l o′
 served-as-model b was o ts l o′ s = rw (opened b was o (s .opens)) at (serves-as-model (s .serves) (s .opens .whole))

@@ -59,8 +59,8 @@ nil-front [] ys e = refl
 nil-front (x ∷ xs) ys e = absurd (let z : _≡_ {A = ℕ} 0 1 = cc in omega arith)
 
 module _ (rows x : ℕ) (tr : Transport) (set : RequestRto) where
-  pub still-there : {w : World} {ss : List Step} {ts : List Turn} → Runs rows w ss ts → (m : ℕ) → Ok rows tr set m w → Steady m ss → LeftAlone rows x w ts
-      → (last : ℕ) (r : StunRequestState) → requestOf (lookup x (w .requests)) ≡ some r → Loud last r → timeouts rows x w ts ≡ []
+  pub still-there : {w : World} {ss : List Step} {ts : List Turn} → Runs rows w ss ts → (m : ℕ) → Ok rows tr set m w → Steady m ss
+      → LeftAlone rows x w ts → (last : ℕ) (r : StunRequestState) → requestOf (lookup x (w .requests)) ≡ some r → Loud last r → timeouts rows x w ts ≡ []
       → (q : StunRequestState) × (requestOf (lookup x (run rows w ts .requests)) ≡ some q)
   unfolding timeouts run
   still-there ends m o h n last r f q e = (r, f)
@@ -127,7 +127,9 @@ module _ (rows x : ℕ) (s : Start) (q : Submission) (pre post : List Step) (bef
       → (y : StunRequestState) × (requestOf (lookup x (run rows (run rows (begins s) before) (submits q ∷ later) .requests)) ≡ some y)
   unfolding run timeouts
   in-table e =
-      let ok = ok-said rows (s .transport) (s .rto) (reached .floor) (q .now) start (kindIn (submits q)) (q .bytes) (reached .ok) (reached .steady .0) (omega arith) in
+      let ok =
+      ok-said rows (s .transport) (s .rto) (reached .floor) (q .now) start (kindIn (submits q)) (q .bytes) (reached .ok) (reached .steady .0)
+      (omega arith) in
       let found : requestOf (lookup x (said rows start (submits q) .world .requests)) ≡ some (joined .request) =
       ap (λ (n : ℕ). requestOf (lookup n (said rows start (submits q) .world .requests))) (sym (life .named (joined .message) (joined .reads)))
       ∙ ap requestOf (joined .stands) in

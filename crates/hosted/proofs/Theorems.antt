@@ -1,12 +1,10 @@
 -- What the theorems about runs say of a session: of what the host saw, and of the memory that it owns at the end.
---     session-accounts     the numbers of its statistics record are counts over its calls
---     session-conserved    requests sent are received, timed out, cancelled or in the table
---     session-fate         a request that is accepted ends once, or is in the table
---     session-delivers     what is handed out for it is its message, from its acceptance to its end
---     session-world        the submission and the calls after it are the model's
---     session-sends, session-timeouts    its sends and its timeout, as the host saw them, are the run's
---     session-demand3      demand 3 of two sessions. That they play rounds is said by `Life` of crate `runs`; its last sentence is about one
---                          run, and stands there.
+--     session-accounts, session-conserved    the numbers of its statistics record are counts over its calls, and balance
+--     called, taken, after-it, session-world    a submission in it, and the calls after that, are the model's
+--     session-delivers    what is handed out for a request is its message, from its acceptance to its end
+--     session-fate        a request that is accepted ends once, or is in the table
+--     session-sends, session-timeouts    a request's sends and its timeout, as the host saw them, are the run's
+--     session-demand3     demand 3 of two sessions; its last sentence is about one run, and stands in crate `runs`
 use Prim.Native.Nat.{ℕ}
 use mathlib.Core.Path.{_≡_, sym, ap, subst, _∙_}
 use mathlib.Core.Bool.{true}
@@ -62,25 +60,29 @@ module _ (x : ℕ) (b : StunAgentBuilder) (was : StunAgentStats) (o : Owned) (be
   rest : AsModel (worldIn (s .here)) (submits q ∷ later) (s .answer ∷ s .replies) (s .last)
   rest = serves-as-model (then-call (s .call) (s .serves)) (first .whole)
 
-  called : record { answer = s .answer; world = worldIn (s .next) } ≡ said 32 (worldIn (s .here)) (submits q)
+  pub called : record { answer = s .answer; world = worldIn (s .next) } ≡ said 32 (worldIn (s .here)) (submits q)
   called = call-as-model (s .here) (submits q) (s .answer) (s .next) (s .call) (first .whole)
 
-  taken : submitsIt x (exchange 32 (worldIn (s .here)) (submits q)) ≡ true
+  pub taken : submitsIt x (exchange 32 (worldIn (s .here)) (submits q)) ≡ true
   taken = ap (λ (y : Said). submitsIt x (sight (submits q) (y .answer))) (sym called) ∙ s .accepted
+
+  pub after-it : AsModel (worldIn (s .next)) later (s .replies) (s .last)
+  after-it = serves-as-model (s .serves) (omega (arith, s .call .same-length, first .whole))
 
   pub session-delivers : DeliversThrough 32 x (q .to) (q .bytes) (worldIn (s .here)) (submits q ∷ later)
   session-delivers = delivered 32 x (worldIn (s .here)) q taken later
 
   pub session-fate : Fate x (sights later (s .replies)) (worldIn (s .last))
   session-fate =
-      let m = serves-as-model (s .serves) (omega (arith, s .call .same-length, first .whole)) in
       let v = worldIn (s .next) in
       let is : said 32 (run 32 (begins (startOf b was o)) before) (submits q) .world ≡ v =
       ap (λ (w : World). said 32 w (submits q) .world) (sym (first .world-is)) ∙ ap (λ (y : Said). y .world) (sym called) in
       let f : Fate x (history 32 v later) (run 32 v later) =
       subst (λ (w : World). Fate x (history 32 w later) (run 32 w later)) is
-      (fate 32 x (startOf b was o) before (submits q) later (subst (λ (w : World). submitsIt x (exchange 32 w (submits q)) ≡ true) (first .world-is) taken)) in
-      subst (λ (w : World). Fate x (sights later (s .replies)) w) (sym (m .world-is)) (subst (λ (l : List Exchange). Fate x l (run 32 v later)) (sym (seen-is m)) f)
+      (fate 32 x (startOf b was o) before (submits q) later
+      (subst (λ (w : World). submitsIt x (exchange 32 w (submits q)) ≡ true) (first .world-is) taken)) in
+      subst (λ (w : World). Fate x (sights later (s .replies)) w) (sym (after-it .world-is))
+      (subst (λ (l : List Exchange). Fate x l (run 32 v later)) (sym (seen-is after-it)) f)
 
   -- What the host owns at the end.
   pub session-world : AsModel (run 32 (begins (startOf b was o)) before) (submits q ∷ later) (s .answer ∷ s .replies) (s .last)
@@ -96,7 +98,8 @@ module _ (x : ℕ) (b : StunAgentBuilder) (was : StunAgentStats) (o : Owned) (be
 -- ---- two sessions
 
 module _ (x : ℕ) (b : StunAgentBuilder) (was : StunAgentStats) (o o′ : Owned) (q : Submission) (before later before′ later′ : List Turn)
-    (s : Submitted x b was o before q later) (s′ : Submitted x b was o′ before′ q later′) (store : o′ .store ≡ o .store) (peers : o′ .peers ≡ o .peers)
+    (s : Submitted x b was o before q later) (s′ : Submitted x b was o′ before′ q later′)
+    (store : o′ .store ≡ o .store) (peers : o′ .peers ≡ o .peers)
     (pre post pre′ post′ : List Step) (more-before : MoreRounds pre pre′) (more : MoreRounds post post′)
     (life : Life 32 x (startOf b was o) q pre post before later) (life′ : Life 32 x (startOf b was o′) q pre′ post′ before′ later′) where
   same : startOf b was o′ ≡ startOf b was o

@@ -18,7 +18,7 @@ use Rattle.waits.specs.Waits.{milliseconds, defaultRto, withinLimits, finalWait
 use Rattle.waits.specs.declared.Transport.{Transport}
 use Rattle.waits.specs.declared.Transport.the-variants.{Udp, Tcp}
 use Rattle.waits.specs.declared.RequestRto.{RequestRto}
-use Rattle.waits.proofs.Limits.{within-limits}
+use Rattle.waits.proofs.Limits.{within-limits, default-limits}
 use Rattle.waits.proofs.Doubling.{default-final, default-span-stream}
 use Rattle.stats.specs.declared.StunAgentStats.{StunAgentStats}
 use Rattle.stats.specs.declared.Event.{Event}
@@ -27,6 +27,8 @@ use Rattle.request.specs.Request.{pollOf}
 use Rattle.request.specs.declared.SendTimes.the-variants.{Sent}
 use Rattle.request.specs.declared.StunRequestState.{StunRequestState}
 use Rattle.request.specs.declared.StunRequestPollRet.the-variants.{TimedOut}
+use Rattle.request.proofs.Answers.{timed-out-exactly}
+use Rattle.request.proofs.Kept.{submission}
 use Rattle.model.specs.World.{World}
 use Rattle.model.specs.Refusals.{SETTINGS, numberOf}
 use Rattle.model.specs.Says.{Said}
@@ -35,7 +37,6 @@ use Rattle.model.specs.Runs.{Turn, left}
 use Rattle.model.specs.declared.StunAgent.{StunAgent}
 use Rattle.model.specs.declared.StunAgentBuilder.{StunAgentBuilder}
 use Rattle.model.specs.declared.Built.the-variants.{Refused, Fresh}
-use Rattle.model.proofs.Below.{default-limits, timed-out-exactly, submission}
 use Rattle.model.proofs.Kept.{run-agent}
 use Rattle.model.proofs.Store.{RequestAccepted}
 

@@ -13,6 +13,7 @@ use Rattle.address.specs.declared.Address.{Address}
 use Rattle.message.specs.Head.{key}
 use Rattle.message.specs.declared.TransactionId.{TransactionId}
 use Rattle.request.specs.declared.StunRequestState.{StunRequestState}
+use Rattle.request.proofs.Kept.{submission}
 use Rattle.requests.specs.Search.{keyOf, lookup, requestOf, placeOf}
 use Rattle.requests.specs.Scan.{walk}
 use Rattle.requests.specs.Use.{inUse}
@@ -31,7 +32,6 @@ use Rattle.model.specs.declared.Answer.the-variants as answer
 use Rattle.model.proofs.Classes.{passed-formed}
 use Rattle.model.proofs.Refused.{refused-same}
 use Rattle.model.proofs.State.{state-exactly}
-use Rattle.model.proofs.Below.{submission}
 use Rattle.model.proofs.Answers.{answer-number, sends-out}
 use Rattle.model.proofs.Kept.{says-formed}
 use Rattle.model.proofs.Store.{part-unused, RequestAccepted, request-accepted}

@@ -19,13 +19,13 @@ use Rattle.waits.specs.declared.RequestRto.{RequestRto}
 use Rattle.waits.specs.declared.Transport.{Transport}
 use Rattle.waits.specs.declared.Transport.the-variants.{Udp, Tcp}
 use Rattle.request.specs.declared.StunRequestState.{StunRequestState}
+use Rattle.request.proofs.Kept.{submission}
 use Rattle.requests.specs.Search.{lookup, requestOf}
 use Rattle.model.specs.World.{World, StateFormed, stateFormed}
 use Rattle.model.specs.Calls.{clockOf}
 use Rattle.model.specs.Refusals.{STATE, numberOf, refusalOf}
 use Rattle.model.specs.Says.{Said}
 use Rattle.model.specs.Runs.{Turn}
-use Rattle.model.proofs.Below as below
 use Rattle.model.proofs.Refused.{bad-state-first, refused-same}
 use Rattle.model.proofs.State.{state-exactly, fresh-formed}
 use Rattle.model.proofs.Store.{RequestAccepted, request-accepted}
@@ -144,7 +144,7 @@ module _ (rows x : ℕ) (s : Start) (q : Submission) (pre post : List Step) (bef
 
   new : New (joined .request)
   new =
-      let b = below.submission (q .now) (joined .message .«transaction_id») (joined .message .integrity) (joined .row) (length (q .bytes)) (q .to) (start .agent .rto) in
+      let b = submission (q .now) (joined .message .«transaction_id») (joined .message .integrity) (joined .row) (length (q .bytes)) (q .to) (start .agent .rto) in
       rw (joined .request-is) (record {
         loud = record { first = q .now; times = b .times-are; silent = b .not-silenced; dropped = b .not-cancelled };
         count-is = b .count-is;

@@ -35,6 +35,7 @@ use Rattle.request.specs.Request.{stepped, silenced, cancelled, configured}
 use Rattle.request.specs.declared.SendTimes.the-variants.{Sent}
 use Rattle.request.proofs.Steps.{step-again}
 use Rattle.request.proofs.Answers.{after-exactly}
+use Rattle.request.proofs.Kept.{submission}
 use Rattle.request.specs.declared.StunRequestState.{StunRequestState}
 use Rattle.requests.specs.Search.{lookup, requestOf}
 use Rattle.requests.specs.Scan.{walk, pollAll}
@@ -57,7 +58,6 @@ use Rattle.model.specs.declared.Call.the-variants as call
 use Rattle.model.specs.declared.Answer.the-variants as answer
 use Rattle.model.proofs.Refused.{refused-same}
 use Rattle.model.proofs.Classes.{done, event-on, answer-receives}
-use Rattle.model.proofs.Below.{submission}
 use Rattle.model.proofs.Store.{request-accepted}
 use Rattle.model.proofs.Statistics.{counts-event}
 use Rattle.model.proofs.Kept.{says-agent}

@@ -27,7 +27,7 @@ use Rattle.request.specs.Kept.{SameRequest}
 use Rattle.request.specs.declared.StunRequestState.{StunRequestState}
 use Rattle.request.specs.declared.StunRequestPollRet.{StunRequestPollRet}
 use Rattle.request.specs.declared.StunRequestPollRet.the-variants as poll-ret
-use Rattle.request.proofs.Kept.{same-silenced, same-cancelled, same-configured}
+use Rattle.request.proofs.Kept.{submission, same-silenced, same-cancelled, same-configured}
 use Rattle.requests.specs.Search.{keyOf, lookup, requestOf}
 use Rattle.requests.specs.Scan.{hour, walk, pollAll}
 use Rattle.requests.specs.declared.Found.{Found}
@@ -48,7 +48,6 @@ use Rattle.model.specs.Effects.{onFound, keeps, removes, changed, taken, answer
 use Rattle.model.specs.Says.{saysOf}
 use Rattle.model.specs.Runs.{Turn}
 use Rattle.model.specs.declared.Answer.the-variants as answer
-use Rattle.model.proofs.Below.{submission}
 use Rattle.model.proofs.Refused.{refused-same, passed-does}
 use Rattle.model.proofs.Kept.{says-formed}
 use Rattle.model.proofs.Store.{request-accepted}

@@ -41,7 +41,7 @@ use Rattle.model.specs.Refusals.{BAD-MESSAGE, WRONG-CLASS, isRequest, refusalOf
 use Rattle.model.specs.Effects.{transmitAnswer, pollAnswer, yesOrNo, sentAs, receivedAs, rttAt, transmitEvent, pollEvent, eventBy}
 use Rattle.model.specs.Says.{Said, saysOf}
 use Rattle.model.specs.Fresh.{freshEvent}
-use Rattle.model.specs.Runs.{Turn, answers}
+use Rattle.model.specs.Runs.{Turn, answers, run}
 use Rattle.model.specs.declared.Answer.{Answer}
 use Rattle.model.specs.declared.Answer.the-variants as answer
 use Rattle.model.proofs.Refused.{passed-exactly, refused-same}
@@ -49,7 +49,7 @@ use Rattle.model.proofs.Classes.{passed-formed, done, event-on, answer-sends, a
 use Rattle.model.proofs.Statistics.{counts-event}
 use Rattle.model.proofs.Kept.{says-agent}
 use Rattle.model.proofs.Store.{request-accepted}
-use Rattle.runs.specs.Run.{kindIn, said, run}
+use Rattle.runs.specs.Run.{kindIn, said}
 use Rattle.runs.specs.Demand.{Start, begins}
 use Rattle.runs.specs.Counts.{Exchange, seen, exchange, history, requestsSent, requestsReceived, responsesSent, responsesReceived, indicationsSent, indicationsReceived, timedOut, cancelled, bytesSent, bytesReceived, total, stopped, Counters, resets, NoReset}
 

@@ -25,11 +25,11 @@ use Rattle.model.specs.World.{World, StateFormed, stateFormed}
 use Rattle.model.specs.Calls.{clockOf}
 use Rattle.model.specs.Refusals.{STATE, numberOf, refusalOf}
 use Rattle.model.specs.Says.{Said}
-use Rattle.model.specs.Runs.{Turn}
+use Rattle.model.specs.Runs.{Turn, run}
 use Rattle.model.proofs.Refused.{bad-state-first, refused-same}
 use Rattle.model.proofs.State.{state-exactly, fresh-formed}
 use Rattle.model.proofs.Store.{RequestAccepted, request-accepted}
-use Rattle.runs.specs.Run.{kindIn, said, run, sends, timeouts}
+use Rattle.runs.specs.Run.{kindIn, said, sends, timeouts}
 use Rattle.runs.specs.Round.{Step, calls, plays, Runs, MoreRounds, no-more, shared, extra}
 use Rattle.runs.specs.Times.{sendTimes, endTime, Rising, More, same, both, added, listOf}
 use Rattle.runs.specs.Demand.{SteadyAt, stepClock, Steady, roundsOf, rounds, Start, begins, Fit, Submission, submits, Life, sendsOf, most, NeverBad, ClosedForm, EachRun}

@@ -44,7 +44,7 @@ use Rattle.model.specs.Accepts.{onMessage, isResponse, accepts}
 use Rattle.model.specs.Refusals.{refusalOf}
 use Rattle.model.specs.Effects.{onFound, keeps, removes, changed, reported, wished, yesOrNo, transmitAnswer, pollAnswer, wishAnswer, meetingAnswer, figureAnswer}
 use Rattle.model.specs.Says.{Said, numberIn, saysOf}
-use Rattle.model.specs.Runs.{Turn}
+use Rattle.model.specs.Runs.{Turn, run}
 use Rattle.model.specs.declared.Answer.{Answer}
 use Rattle.model.specs.declared.Answer.the-variants as answer
 use Rattle.model.proofs.Refused.{refused-same}
@@ -53,9 +53,10 @@ use Rattle.model.proofs.Answers.{answer-number}
 use Rattle.model.proofs.Received.{response-found, response-taken}
 use Rattle.model.proofs.Kept.{says-agent}
 use Rattle.model.proofs.Store.{RequestAccepted, request-accepted}
-use Rattle.runs.specs.Run.{kindIn, said, run, handsOutIt, answersTo, handles}
+use Rattle.runs.specs.Run.{kindIn, said, handsOutIt, answersTo, handles}
 use Rattle.runs.specs.Demand.{Start, begins}
-use Rattle.runs.specs.Counts.{exchange, history, isYes}
+use Rattle.runs.specs.Answers.{isYes}
+use Rattle.runs.specs.Counts.{exchange, history}
 use Rattle.runs.specs.Ends.{End, by-timeout, by-cancel, submitsBy, respondsTo, reportEnd, endBy}
 use Rattle.runs.specs.Followed.{reaches, wishedOf, mapped, followedBy, followed, followedThrough}
 use Rattle.runs.proofs.Spared.{ScanSaid, passed-spares, scan-said, ended-other, not-found, requests-after}

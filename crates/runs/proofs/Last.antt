@@ -46,17 +46,18 @@ use Rattle.model.specs.Accepts.{onMessage, isResponse, accepts}
 use Rattle.model.specs.Refusals.{STATE, numberOf, refusalOf}
 use Rattle.model.specs.Effects.{onFound, keeps, changed, taken, answered, reported, wished, changeOf, transmitAnswer, pollAnswer}
 use Rattle.model.specs.Says.{Said, saysOf}
-use Rattle.model.specs.Runs.{Turn}
+use Rattle.model.specs.Runs.{Turn, run}
 use Rattle.model.specs.declared.Answer.the-variants as answer
 use Rattle.model.proofs.Refused.{refused-same}
+use Rattle.model.proofs.Classes.{scan-passes}
 use Rattle.model.proofs.Kept.{says-formed, says-agent}
 use Rattle.model.proofs.Store.{request-accepted}
 use Rattle.model.proofs.Default.{accepted-settings}
-use Rattle.runs.specs.Run.{kindIn, said, run, handsOut}
+use Rattle.runs.specs.Run.{kindIn, said, handsOut}
 use Rattle.runs.specs.Round.{transmission, poll, isReport, Transmits, none-left, one-more, Polls, told-to-wait, one-report, Round, round, Step, plays, Runs}
 use Rattle.runs.specs.Demand.{Steady, Start, begins}
 use Rattle.runs.specs.Last.{All, Positive, PositiveIf, NoZeroSet, NoSilentDue, Idle, LastSentence}
-use Rattle.runs.proofs.Steady.{Ok, ok-said, scan-passes, ok-transmits, ok-round, Reaches, reaches}
+use Rattle.runs.proofs.Steady.{Ok, ok-said, ok-transmits, ok-round, Reaches, reaches}
 use Rattle.runs.proofs.Spared.{requests-after, scan-said}
 use Rattle.runs.proofs.Rests.{all-at, all-removed, all-set, all-added, all-walk, Rested, rested, Staying, staying, ahead, Between, still-ahead}
 use Rattle.runs.proofs.Demand.{fresh-ok, began-formed}

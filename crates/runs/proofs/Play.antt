@@ -33,9 +33,9 @@ use Rattle.requests.proofs.Transmits.{goes-stepped}
 use Rattle.requests.proofs.Polls.{Says, poll-says}
 use Rattle.model.specs.World.{World}
 use Rattle.model.specs.Effects.{changed, reported, transmitAnswer, pollAnswer}
-use Rattle.model.specs.Runs.{Turn}
+use Rattle.model.specs.Runs.{Turn, run}
 use Rattle.model.specs.declared.Answer.the-variants as answer
-use Rattle.runs.specs.Run.{kindIn, said, run, handsOut}
+use Rattle.runs.specs.Run.{kindIn, said, handsOut}
 use Rattle.runs.specs.Round.{transmission, poll, isReport, Transmits, none-left, one-more, Polls, told-to-wait, one-report, Round, round, Step, calls, plays, isScan, Runs, ends, then-call, then-round}
 use Rattle.runs.specs.Play.{transmissionsIn, pollsIn, unsent, left, leftIn, transmissions, polls, roundOf, played}
 use Rattle.runs.specs.Demand.{Steady}

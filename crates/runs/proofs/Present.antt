@@ -34,14 +34,15 @@ use Rattle.model.specs.World.{World}
 use Rattle.model.specs.Calls.{transmits, reports}
 use Rattle.model.specs.Refusals.{refusalOf}
 use Rattle.model.specs.Effects.{changed, reported, transmitAnswer, pollAnswer}
-use Rattle.model.specs.Runs.{Turn}
+use Rattle.model.specs.Runs.{Turn, run}
 use Rattle.model.specs.declared.Answer.{Answer}
 use Rattle.model.specs.declared.Answer.the-variants as answer
-use Rattle.runs.specs.Run.{kindIn, said, run, handsOut, handsOutIt, timesOutIt, sends, timeouts}
+use Rattle.model.proofs.Classes.{scan-passes}
+use Rattle.runs.specs.Run.{kindIn, said, handsOut, handsOutIt, timesOutIt, sends, timeouts}
 use Rattle.runs.specs.Round.{transmission, poll, isReport, Transmits, none-left, one-more, Polls, told-to-wait, one-report, Round, round, Step, Runs, ends, then-call, then-round}
 use Rattle.runs.specs.Times.{next, sendTimes, endTime, listOf}
 use Rattle.runs.specs.Demand.{Steady, rounds, LeftAlone}
-use Rattle.runs.proofs.Steady.{Ok, ok-said, next-ok, scan-passes, transmits-world, polls-world, round-world, ok-transmits, ok-round}
+use Rattle.runs.proofs.Steady.{Ok, ok-said, next-ok, transmits-world, polls-world, round-world, ok-transmits, ok-round}
 use Rattle.runs.proofs.Spared.{others-spare, scan-said, ended-other, absent-run}
 use Rattle.runs.proofs.One.{Loud, stepped-facts, sendsFrom, endFrom, loud-goes, sends-step, end-step, sends-stay, sends-over, end-over, end-stay, timed-over, waits-over, not-cancelled}
 

@@ -52,7 +52,7 @@ use Rattle.model.specs.Accepts.{onMessage, isResponse, accepts}
 use Rattle.model.specs.Refusals.{refusalOf}
 use Rattle.model.specs.Effects.{yesOrNo, sentAs, receivedAs, rttAt, transmitEvent, pollEvent, eventBy}
 use Rattle.model.specs.Says.{numberIn, saysOf}
-use Rattle.model.specs.Runs.{Turn, with}
+use Rattle.model.specs.Runs.{Turn, with, run}
 use Rattle.model.specs.declared.Answer.{Answer}
 use Rattle.model.specs.declared.Call.the-variants as call
 use Rattle.model.specs.declared.Answer.the-variants as answer
@@ -60,14 +60,15 @@ use Rattle.model.proofs.Refused.{refused-same}
 use Rattle.model.proofs.Classes.{done, event-on, answer-receives}
 use Rattle.model.proofs.Store.{request-accepted}
 use Rattle.model.proofs.Statistics.{counts-event}
-use Rattle.model.proofs.Kept.{says-agent}
-use Rattle.runs.specs.Run.{kindIn, said, run}
+use Rattle.model.proofs.Kept.{says-agent, run-agent}
+use Rattle.runs.specs.Run.{kindIn, said}
 use Rattle.runs.specs.Demand.{Start, begins, Submission, submits as submits-of}
-use Rattle.runs.specs.Counts.{Exchange, seen, exchange, history, isYes, one, resets, NoReset}
+use Rattle.runs.specs.Answers.{isYes}
+use Rattle.runs.specs.Counts.{Exchange, seen, exchange, history, one, resets, NoReset}
 use Rattle.runs.specs.Ends.{by-response, submitsBy, submitsIt, respondsTo, endBy, Unended}
 use Rattle.runs.specs.Followed.{reaches, wishedOf, followedBy, followed, followedThrough}
 use Rattle.runs.specs.Samples.{Left, leftBy, measured, sampleOf, listed, samplesFrom, samples, sumOf, leastOf, greatestOf, RoundTrips, Accounts, stepsBy, stepsThrough}
-use Rattle.runs.proofs.Steady.{run-append, run-agent}
+use Rattle.runs.proofs.Steady.{run-append}
 use Rattle.runs.proofs.Counts.{begins-zeroed, counters-are}
 use Rattle.runs.proofs.Followed.{stands-at, traced, followed-at, follows, follows-fresh}
 use Rattle.runs.proofs.Ends.{submits-other}

@@ -46,12 +46,12 @@ use Rattle.model.specs.Accepts.{onMessage, isResponse, accepts}
 use Rattle.model.specs.Refusals.{refusalOf}
 use Rattle.model.specs.Effects.{onFound, keeps, removes, changed, taken, answered, reported, wished, changeOf, transmitAnswer, pollAnswer, scanAnswer, scanChange, answerOf, after}
 use Rattle.model.specs.Says.{saysOf}
-use Rattle.model.specs.Runs.{Turn}
+use Rattle.model.specs.Runs.{Turn, run}
 use Rattle.model.specs.declared.Answer.the-variants as answer
 use Rattle.model.proofs.Refused.{refused-same, passed-does}
 use Rattle.model.proofs.Kept.{says-formed}
 use Rattle.model.proofs.Store.{request-accepted}
-use Rattle.runs.specs.Run.{kindIn, said, run, handsOutIt, timesOutIt, noted, sendsBy, timeoutsBy, sends, timeouts, answersTo, alters, handles, handledBy}
+use Rattle.runs.specs.Run.{kindIn, said, handsOutIt, timesOutIt, noted, sendsBy, timeoutsBy, sends, timeouts, answersTo, alters, handles, handledBy}
 use Rattle.runs.specs.Round.{isScan}
 use Rattle.runs.specs.Demand.{LeftAlone}
 

@@ -74,13 +74,11 @@ pub call-formed : (rows : ℕ) (w : World) (c : Call) (m : List ℕ) → StateFo
 call-formed rows w c m formed = says-formed rows w (kindOf c) m formed
 
 pub run-formed : (rows : ℕ) (ts : List Turn) (w : World) → StateFormed rows w → StateFormed rows (run rows w ts)
-unfolding run
 run-formed rows [] w formed = formed
 run-formed rows (t ∷ ts) w formed =
     run-formed rows ts (says rows w (t .made) (t .bytes) .world) (call-formed rows w (t .made) (t .bytes) formed)
 
 pub run-agent : (rows : ℕ) (ts : List Turn) (w : World) → SameBuild (w .agent) (run rows w ts .agent)
-unfolding run
 run-agent rows [] w = record { transport = refl; stats = refl; rto = refl }
 run-agent rows (t ∷ ts) w =
     let one = says-agent rows w (kindOf (t .made)) (t .bytes) in

@@ -38,7 +38,7 @@ record Says : Type 0 where
   counts : says.says 32 counting (call.SendRequest (peer 9) 0) (request 1) .world .stats ≡ figures 1 0 0 0 20 0
 
 it-says : Says
-unfolding run worked.message says.saysOf world.stateFormed accepts.accepts accepts.newPeer refusals.refusalOf effects.newRequest effects.changeOf effects.answerOf effects.eventOf effects.peersAfter effects.peerCount effects.after waits.withinLimits waits.sumOf waits.finalWait waits.defaultRto formed.formed limits.withinLimits one.submitted one.stepped one.silenced one.cancelled one.configured one.transmitOf one.pollOf times.passedAll times.dueOf times.endOf times.isDue times.isOver times.momentOf times.rttOf head.key head.idAt head.classOf head.headGood head.readHead head.headOf attributes.attributesFrom attributes.later attributes.walkOf attributes.messageOf count.counted figures.averageOf figures.outstandingOf store.inStore store.stored store.copied
+unfolding worked.message says.saysOf world.stateFormed accepts.accepts accepts.newPeer refusals.refusalOf effects.newRequest effects.changeOf effects.answerOf effects.eventOf effects.peersAfter effects.peerCount effects.after waits.withinLimits waits.sumOf waits.finalWait waits.defaultRto formed.formed limits.withinLimits one.submitted one.stepped one.silenced one.cancelled one.configured one.transmitOf one.pollOf times.passedAll times.dueOf times.endOf times.isDue times.isOver times.momentOf times.rttOf head.key head.idAt head.classOf head.headGood head.readHead head.headOf attributes.attributesFrom attributes.later attributes.walkOf attributes.messageOf count.counted figures.averageOf figures.outstandingOf store.inStore store.stored store.copied
 it-says = record { first = refl; stands = refl; again = refl; ended = refl; counts = refl }
 
 module _ (b : Build) (meets : Meets 32 b) where

@@ -22,6 +22,6 @@ unfoldable pub answers : ℕ → World → List Turn → List Answer
 answers rows w [] = []
 answers rows w (t ∷ ts) = says rows w (t .made) (t .bytes) .answer ∷ answers rows (says rows w (t .made) (t .bytes) .world) ts
 
-unfoldable pub run : ℕ → World → List Turn → World
+abbrev pub run : ℕ → World → List Turn → World
 run rows w [] = w
 run rows w (t ∷ ts) = run rows (says rows w (t .made) (t .bytes) .world) ts

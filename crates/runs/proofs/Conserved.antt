@@ -145,7 +145,7 @@ balanced-from : (rows : ℕ) (ts : List Turn) (w : World)
     → total requestsSent (history rows w ts) + length (w .requests)
     ≡ total responsesReceived (history rows w ts) + total timedOut (history rows w ts) + total cancelled (history rows w ts)
     + length (run rows w ts .requests)
-unfolding history run
+unfolding history
 balanced-from rows [] w = refl
 balanced-from rows (t ∷ ts) w =
     let one = keeps-call rows w (t .bytes) (kindIn t) in

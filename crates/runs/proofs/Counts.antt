@@ -297,7 +297,7 @@ module _ (get : StunAgentStats → ℕ) (moves : Moves → Move) (part : Amounts
 
   grows : (ts : List Turn) (w : World) (n : ℕ) → w .agent .stats ≡ true → NoReset ts → get (w .stats) ≡ stopped n
       → get (run rows w ts .stats) ≡ stopped (n + total (λ e. part (amountsIn e)) (history rows w ts))
-  unfolding run history
+  unfolding history
   grows [] w n on kept h = rw add-zero h
   grows (t ∷ ts) w n on kept h =
       let c = counts-call rows w (kindIn t) (t .bytes) on (kept .0) in

@@ -71,7 +71,6 @@ steady-front (s ∷ ss) rest m h = go (stepClock s) h (steady-front ss rest)
 
 -- a world that isn't well formed refuses every call
 pub unformed-run : (rows : ℕ) (w : World) (ts : List Turn) → stateFormed rows w ≡ false → run rows w ts ≡ w
-unfolding run
 unformed-run rows w [] e = refl
 unformed-run rows w (t ∷ ts) e =
     let same : said rows w t .world ≡ w =

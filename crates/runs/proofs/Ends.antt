@@ -155,7 +155,7 @@ found-none (At i r) e = none-some (sym e)
 found-none Nothing e = refl
 
 pub lives-from : (rows x : ℕ) (ts : List Turn) (w : World) → Lives x (inTable x w) (history rows w ts) (inTable x (run rows w ts))
-unfolding history run
+unfolding history
 lives-from rows x [] w = as-it-is
 lives-from rows x (t ∷ ts) w = go (lookup x (w .requests)) refl (lives-from rows x ts (said rows w t .world))
   where

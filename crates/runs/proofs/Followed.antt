@@ -451,7 +451,7 @@ followed-at rows x tr rto w t s c =
 
 pub follows : (rows x : ℕ) (tr : Transport) (rto : RequestRto) (ts : List Turn) (w : World) → w .agent .transport ≡ tr → w .agent .rto ≡ rto
     → requestOf (lookup x (run rows w ts .requests)) ≡ followedThrough tr rto x (requestOf (lookup x (w .requests))) (history rows w ts)
-unfolding run history
+unfolding history
 follows rows x tr rto [] w t s = refl
 follows rows x tr rto (c ∷ ts) w t s =
     let a = says-agent rows w (kindIn c) (c .bytes) in

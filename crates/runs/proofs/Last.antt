@@ -312,7 +312,6 @@ module _ (rows : ℕ) (w : World) (formed : StateFormed rows w) (built : Positiv
 
 pub positive-run : (rows : ℕ) (w : World) (ts : List Turn) → StateFormed rows w → Positive (w .agent .rto) → NoZeroSet rows w ts → All PositiveIn (w .requests)
     → All PositiveIn (run rows w ts .requests)
-unfolding run
 positive-run rows w [] f p z h = h
 positive-run rows w (t ∷ ts) f p z h =
     let a = says-agent rows w (kindIn t) (t .bytes) in

@@ -210,7 +210,7 @@ NoScan (plays now ∷ ss) = NoScan ss
 
 pub runs-played : {rows : ℕ} {tr : Transport} {set : RequestRto} (ss : List Step) (m : ℕ) (w : World) → Ok rows tr set m w → Steady m ss → NoScan ss
     → Runs rows w ss (played rows w ss)
-unfolding played run
+unfolding played
 runs-played [] m w o h n = ends
 runs-played {rows} {tr} {set} (calls t ∷ ss) m w o h n =
     let z = next-ok rows tr set m t w (λ u. Steady u ss) o h in

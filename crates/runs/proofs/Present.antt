@@ -49,17 +49,16 @@ use Rattle.runs.proofs.One.{Loud, stepped-facts, sendsFrom, endFrom, lo
 -- ---- runs in two parts
 
 pub sends-append : (rows x : ℕ) (w : World) (rs bs : List Turn) → sends rows x w (rs ++ bs) ≡ sends rows x w rs ++ sends rows x (run rows w rs) bs
-unfolding sends run
+unfolding sends
 sends-append rows x w [] bs = refl
 sends-append rows x w (t ∷ rs) bs = rw (sends-append rows x (said rows w t .world) rs bs, append-assoc)
 
 pub timeouts-append : (rows x : ℕ) (w : World) (rs bs : List Turn) → timeouts rows x w (rs ++ bs) ≡ timeouts rows x w rs ++ timeouts rows x (run rows w rs) bs
-unfolding timeouts run
+unfolding timeouts
 timeouts-append rows x w [] bs = refl
 timeouts-append rows x w (t ∷ rs) bs = rw (timeouts-append rows x (said rows w t .world) rs bs, append-assoc)
 
 alone-rest : (rows x : ℕ) (w : World) (rs bs : List Turn) → LeftAlone rows x w (rs ++ bs) → LeftAlone rows x (run rows w rs) bs
-unfolding run
 alone-rest rows x w [] bs h = h
 alone-rest rows x w (t ∷ rs) bs h = alone-rest rows x (said rows w t .world) rs bs (h .1)
 

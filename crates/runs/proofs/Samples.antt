@@ -207,7 +207,7 @@ module _ (rows : ℕ) (tr : Transport) (rto : RequestRto) where
   trips-from : (ts : List Turn) (w : World) (left : Left) (l : List ℕ) → ((x : ℕ) → requestOf (lookup x (w .requests)) ≡ left x)
       → w .agent .transport ≡ tr → w .agent .rto ≡ rto → w .agent .stats ≡ true → NoReset ts → RoundTrips l (w .stats)
       → RoundTrips (l ++ samplesFrom tr rto left (history rows w ts)) (run rows w ts .stats)
-  unfolding history run
+  unfolding history
   trips-from [] w left l agrees t s on kept h = rw (append-nil l) h
   trips-from (c ∷ ts) w left l agrees t s on kept h =
       let a = says-agent rows w (kindIn c) (c .bytes) in
@@ -372,7 +372,6 @@ module _ (rows x : ℕ) (s : Start) (before : List Turn) (q : Submission) (later
         (timed-through tr rto x l (q .now) 0 (a .request) p t u through)
 
     left-is : (y : ℕ) → left y ≡ requestOf (lookup y (now-at .requests))
-    unfolding run
     left-is y =
         sym (follows-fresh rows y s (before ++ (submits-of q ∷ later)))
         ∙ ap (λ (w : World). requestOf (lookup y (w .requests))) (run-append rows (begins s) before (submits-of q ∷ later))

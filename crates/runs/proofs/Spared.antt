@@ -223,7 +223,7 @@ pub record Silent (rows x : ℕ) (w : World) (ts : List Turn) : Type 0 where
   pub gone : requestOf (lookup x (run rows w ts .requests)) ≡ none
 
 pub absent-run : (rows x : ℕ) (w : World) (ts : List Turn) → StateFormed rows w → LeftAlone rows x w ts → requestOf (lookup x (w .requests)) ≡ none → Silent rows x w ts
-unfolding sends timeouts run
+unfolding sends timeouts
 absent-run rows x w [] f h g = record { unsent = refl; untimed = refl; gone = g }
 absent-run rows x w (t ∷ ts) f h g =
     let s = absent-kind rows x w g f t (h .0) (kindIn t) refl in

@@ -74,17 +74,14 @@ module _ (rows : ℕ) (tr : Transport) (set : RequestRto) where
 
 -- a run in two parts
 pub run-append : (rows : ℕ) (w : World) (rs bs : List Turn) → run rows w (rs ++ bs) ≡ run rows (run rows w rs) bs
-unfolding run
 run-append rows w [] bs = refl
 run-append rows w (t ∷ rs) bs = run-append rows (said rows w t .world) rs bs
 
 pub transmits-world : {rows now : ℕ} {w v : World} {ts : List Turn} → Transmits rows now w ts v → run rows w ts ≡ v
-unfolding run
 transmits-world (none-left e) = refl
 transmits-world (one-more e d) = transmits-world d
 
 pub polls-world : {rows now clock : ℕ} {w v : World} {ts : List Turn} → Polls rows now w ts v clock → run rows w ts ≡ v
-unfolding run
 polls-world (told-to-wait e) = refl
 polls-world (one-report e d) = polls-world d
 
@@ -112,7 +109,6 @@ pub record Reaches (rows : ℕ) (tr : Transport) (set : RequestRto) (rest : List
 
 pub reaches : {rows : ℕ} {tr : Transport} {set : RequestRto} {w : World} {ss : List Step} {ts : List Turn} → Runs rows w ss ts
     → (rest : List Step) (m : ℕ) → Ok rows tr set m w → Steady m (ss ++ rest) → Reaches rows tr set rest (run rows w ts)
-unfolding run
 reaches ends rest m o h = record { floor = m; ok = o; steady = h }
 reaches {rows} {tr} {set} (then-call {w} {t} {ss} n d) rest m o h =
     let z = next-ok rows tr set m t w (λ u. Steady u (ss ++ rest)) o h in
@@ -123,7 +119,6 @@ reaches {rows} {tr} {set} (then-round {w} {u} {now} {rs = rs} {ts = ts} a d) res
 -- no call is refused by 1 or 3
 
 pub never-append : (rows : ℕ) (w : World) (rs bs : List Turn) → NeverBad rows w rs → NeverBad rows (run rows w rs) bs → NeverBad rows w (rs ++ bs)
-unfolding run
 never-append rows w [] bs a b = b
 never-append rows w (t ∷ rs) bs a b = (a .0, a .1, never-append rows (said rows w t .world) rs bs (a .2) b)
 

@@ -59,7 +59,7 @@ use Rattle.runs.specs.Answers.{isYes}
 use Rattle.runs.specs.Counts.{exchange, history}
 use Rattle.runs.specs.Ends.{End, by-timeout, by-cancel, submitsBy, respondsTo, reportEnd, endBy}
 use Rattle.runs.specs.Followed.{reaches, wishedOf, mapped, followedBy, followed, followedThrough}
-use Rattle.runs.proofs.Spared.{ScanSaid, passed-spares, scan-said, ended-other, not-found, requests-after}
+use Rattle.runs.proofs.Spared.{ScanSaid, passed-spares, scan-said, ended-other, not-found}
 
 -- The calls that hand a request out.
 abbrev pub handedBy : ℕ → Kind → Answer → Bool
@@ -344,7 +344,7 @@ module _ (rows x : ℕ) (w : World) (m : List ℕ) where
           → requestOf (lookup x (saysOf rows w (names id wish) m .world .requests))
           ≡ cond b (mapped (requestOf (lookup x (w .requests))) (wishedOf wish)) (requestOf (lookup x (w .requests)))
       go true b =
-          rw (requests-after rows w (names id wish) m e, change-names rows w m id wish, eqb-true (key id) x b)
+          rw (done rows w (names id wish) m e .requests, change-names rows w m id wish, eqb-true (key id) x b)
           (wish-after (w .agent .transport) (w .requests) wish (lookup x (w .requests)) refl)
       go false b = passed-spares rows x w formed (names id wish) m refl e (rw (b, and-false)) .kept
 

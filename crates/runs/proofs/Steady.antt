@@ -18,11 +18,11 @@ use Rattle.requests.proofs.Lists.{apart}
 use Rattle.model.specs.World.{World, StateFormed}
 use Rattle.model.specs.Calls.{Kind, clockOf, onSome}
 use Rattle.model.specs.Refusals.{CLOCK, numberOf, refusalOf}
-use Rattle.model.specs.Effects.{markAfter, after}
+use Rattle.model.specs.Effects.{markAfter}
 use Rattle.model.specs.Says.{saysOf}
 use Rattle.model.specs.Runs.{Turn, run}
-use Rattle.model.proofs.Refused.{refused-exactly, refused-same, passed-does}
-use Rattle.model.proofs.Classes.{never-state}
+use Rattle.model.proofs.Refused.{refused-exactly, refused-same}
+use Rattle.model.proofs.Classes.{never-state, done}
 use Rattle.model.proofs.Kept.{says-formed, says-agent}
 use Rattle.runs.specs.Run.{kindIn, said}
 use Rattle.runs.specs.Round.{transmission, poll, Transmits, none-left, one-more, Polls, told-to-wait, one-report, Round, round, Step, Runs, ends, then-call, then-round}
@@ -42,11 +42,10 @@ clock-fine mark (some t) m l h = rw (le-ltb (2 ^ 60) t (h .1), le-ltb t mark (om
 
 module _ (rows : ℕ) (tr : Transport) (set : RequestRto) where
   mark-said : (w : World) (k : Kind) (b : List ℕ) (u : ℕ) → w .agent .mark ≤ u → markAfter w k ≤ u → saysOf rows w k b .world .agent .mark ≤ u
-  unfolding after
   mark-said w k b u l h = go (refusalOf rows w k b) refl
     where
       go : (n : ℕ) → refusalOf rows w k b ≡ n → saysOf rows w k b .world .agent .mark ≤ u
-      go zero e = rw (passed-does rows w k b e) h
+      go zero e = rw (done rows w k b e .agent) h
       go (suc n) e = rw (refused-same rows w k b n e) l
 
   pub ok-said : (m u : ℕ) (w : World) (k : Kind) (b : List ℕ) → Ok rows tr set m w → m ≤ u → markAfter w k ≤ u → Ok rows tr set u (saysOf rows w k b .world)

@@ -1,12 +1,10 @@
 -- A law for each way through a turn.
 use mathlib.Core.Path.{_≡_, refl, sym, ap, _∙_}
 use mathlib.Core.Bool.{Bool, true, false, cond}
-use mathlib.Core.List.{List, []}
-use Prim.Native.Nat.{ℕ, _-_, _≤_}
+use mathlib.Core.List.{List}
+use Prim.Native.Nat.{ℕ, _-_}
 use native.Mathlib.Omega.{arith}
-use lib.Dec.{leb}
-use lib.ListN.{length, take, drop, replicate, length-replicate}
-use borrow.Author.Tests.{le-leb}
+use lib.ListN.{take, drop, replicate, length-replicate}
 use Rattle.waits.specs.Waits.{defaultRto}
 use Rattle.waits.specs.declared.RequestRto.{RequestRto}
 use Rattle.waits.specs.declared.Transport.the-variants.{Udp}
@@ -14,12 +12,9 @@ use Rattle.stats.specs.Count.{counted, zeroed}
 use Rattle.stats.specs.declared.StunAgentStats.{StunAgentStats}
 use Rattle.stats.specs.declared.Event.{Event}
 use Rattle.request.specs.declared.StunRequestState.{StunRequestState}
-use Rattle.records.specs.Coding.{size}
 use Rattle.records.specs.Live.{live}
-use Rattle.model.specs.World.{World}
-use Rattle.model.specs.Calls.{Kind, kindOf}
 use Rattle.model.specs.Fresh.{buildOf}
-use Rattle.model.specs.Says.{Said, saysOf, says}
+use Rattle.model.specs.Says.{Said, says}
 use Rattle.model.specs.declared.StunAgent.{StunAgent}
 use Rattle.model.specs.declared.StunAgentBuilder.{StunAgentBuilder}
 use Rattle.model.specs.declared.Built.{Built}
@@ -28,21 +23,16 @@ use Rattle.model.specs.declared.Call.{Call}
 use Rattle.model.specs.declared.Answer.the-variants.{Ok, Refused}
 use Rattle.model.proofs.Default.{built-empty}
 use Rattle.agent.specs.Ready.{worldWith, worldOf}
-use Rattle.agent.specs.Said.{refusalIn, saidIn}
 use Rattle.record.specs.Records.{recordOf}
 use Rattle.record.specs.declared.Record.{Record}
 use Rattle.record.specs.declared.Record.the-variants.{Settings, Whole, Bad as Broken}
 use Rattle.line.specs.declared.Reply.the-variants.{Told, Bad}
-use Rattle.replay.specs.Runs.{Stand, Played, noPeer, firstWorld, firstStand, stop, made, stepped, turnBy, turnOf}
-use Rattle.replay.specs.Lent.{standOf, playedOf, Plays, firstStanding, Begins}
+use Rattle.replay.specs.Runs.{Played, noPeer, firstWorld, firstStand, stop, made, stepped, turnBy, turnOf}
+use Rattle.replay.specs.Lent.{standOf, Plays, firstStanding, Begins}
 use Rattle.replay.specs.declared.Standing.{Standing}
 use Rattle.entry.specs.Entry.{Performed, answeredIn}
 use Rattle.entry.specs.declared.Stepped.{Stepped}
-
--- On a table with all its rows a call says what the model says.
-said-whole : (t : List ℕ) (w : World) (k : Kind) (m : List ℕ) → size ≤ length t → saidIn t w k m ≡ saysOf 32 w k m
-unfolding saidIn refusalIn saysOf
-said-whole t w k m h = rw (le-leb size (length t) h)
+use Rattle.entry.proofs.Theorems.{as-model}
 
 -- Before the first settings.
 pub begins : {rto : RequestRto} {st : StunAgentStats} → rto ≡ defaultRto → st ≡ zeroed
@@ -85,11 +75,11 @@ module _ (x : Standing) (s t store : List ℕ) {rec : Record} (e : rec ≡ recor
     pub played : x .on ≡ true → {r : Stepped} {t′ store′ : List ℕ}
         → Performed (x .held .agent) call message t store (x .held .peers) (x .held .stats) t′ store′ (r .held .peers) (r .held .stats) (answeredIn r)
         → Plays x s t store (record { standing = record { on = true; held = r .held }; reply = Told (r .answer); next = end; more = true }) t′ store′
-    played n p = record {
+    played n {r} {t′} {store′} p = record {
       says =
           λ z.
           by-record h
-          (ap (λ (y : Said). stepped y end) (p .says ∙ said-whole t (standOf x t store .world) (kindOf call) message z)
+          (ap (λ (y : Said). stepped y end) (as-model (x .held .agent) call message t store (x .held .peers) (x .held .stats) t′ store′ (r .held .peers) (r .held .stats) (answeredIn r) p z)
           ∙ sym (ap (λ (b : Bool). cond b (stepped (says 32 (standOf x t store .world) call message) end) (stop (standOf x t store))) n));
     }
 

@@ -1,8 +1,8 @@
 -- What the answers say, by tests of the record: nothing above has to take `transmitOf` or `pollOf` apart.
 --     goes-exactly, after-exactly    when a request goes out, and the record after `poll_transmit`
 --     ends-exactly, wait-clock       when `poll` reports a request, and the clock to wait for otherwise
---     timed-out-exactly              when a request with all steps passed has timed out
 --     counted-exactly                what is counted then
+--     timed-out-exactly              when a request with all steps passed has timed out
 use mathlib.Core.Path.{_≡_, refl, sym, ap, _∙_}
 use mathlib.Core.Bool.{Bool, true, false, cond, not, _&&_, _||_, true≢false}
 use mathlib.Core.Logic.{_↔_}

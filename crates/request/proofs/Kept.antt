@@ -1,4 +1,4 @@
--- What a request keeps over each change, what one as submitted holds, and that a new request and its first `poll_transmit` together are that.
+-- What a request keeps over each change, and the fields of a request as submitted, which is a new one after its first `poll_transmit`.
 use mathlib.Core.Path.{_≡_, refl, ap, _∙_}
 use mathlib.Core.Bool.{Bool, true, false, cond, not, _&&_}
 use Prim.Native.Nat.{ℕ}

@@ -18,7 +18,7 @@ abbrev pub plain : Call → Turn
 plain c = with c []
 
 -- What each of them answers, and the world that they leave.
-unfoldable pub answers : ℕ → World → List Turn → List Answer
+abbrev pub answers : ℕ → World → List Turn → List Answer
 answers rows w [] = []
 answers rows w (t ∷ ts) = says rows w (t .made) (t .bytes) .answer ∷ answers rows (says rows w (t .made) (t .bytes) .world) ts
 

@@ -55,7 +55,7 @@ use Rattle.runs.specs.Counts.{Exchange, seen, exchange, history, request
 
 -- The answers of a run's history are the run's.
 pub history-answers : (rows : ℕ) (ts : List Turn) (w : World) → map (λ e. e .answer) (history rows w ts) ≡ answers rows w ts
-unfolding history answers
+unfolding history
 history-answers rows [] w = refl
 history-answers rows (t ∷ ts) w = ap (λ (l : List Answer). said rows w t .answer ∷ l) (history-answers rows ts (said rows w t .world))
 

@@ -24,7 +24,6 @@ use Rattle.model.specs.Refusals as refusals
 use Rattle.model.specs.Effects as effects
 use Rattle.model.specs.Says as says
 use Rattle.model.specs.Worked as worked
-use Rattle.model.specs.Runs as turns
 use Rattle.runs.specs.Run as run
 use Rattle.runs.specs.Play as play
 use Rattle.model.specs.Runs.{Turn}
@@ -41,7 +40,7 @@ use Rattle.runs.proofs.Play.{NoScan, runs-played}
 
 -- To unfold this is to unfold all that its line names: one word for the whole model.
 unfoldable pub opened : Unit {0}
-unfolding run.sends run.timeouts play.transmissionsIn play.pollsIn play.transmissions play.polls play.roundOf play.played turns.answers worked.message says.saysOf world.stateFormed accepts.accepts accepts.newPeer refusals.refusalOf effects.newRequest effects.changeOf effects.answerOf effects.eventOf effects.peersAfter effects.peerCount effects.after waits.withinLimits waits.sumOf waits.finalWait waits.defaultRto formed.formed limits.withinLimits one.submitted one.stepped one.silenced one.cancelled one.configured one.transmitOf one.pollOf times.passedAll times.dueOf times.endOf times.isDue times.isOver times.momentOf times.rttOf head.key head.idAt head.classOf head.headGood head.readHead head.headOf attributes.attributesFrom attributes.later attributes.walkOf attributes.messageOf count.counted figures.averageOf figures.outstandingOf store.inStore store.stored store.copied
+unfolding run.sends run.timeouts play.transmissionsIn play.pollsIn play.transmissions play.polls play.roundOf play.played worked.message says.saysOf world.stateFormed accepts.accepts accepts.newPeer refusals.refusalOf effects.newRequest effects.changeOf effects.answerOf effects.eventOf effects.peersAfter effects.peerCount effects.after waits.withinLimits waits.sumOf waits.finalWait waits.defaultRto formed.formed limits.withinLimits one.submitted one.stepped one.silenced one.cancelled one.configured one.transmitOf one.pollOf times.passedAll times.dueOf times.endOf times.isDue times.isOver times.momentOf times.rttOf head.key head.idAt head.classOf head.headGood head.readHead head.headOf attributes.attributesFrom attributes.later attributes.walkOf attributes.messageOf count.counted figures.averageOf figures.outstandingOf store.inStore store.stored store.copied
 opened = tt
 
 pub values : Values

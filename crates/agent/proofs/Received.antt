@@ -30,11 +30,12 @@ use Rattle.requests.proofs.Search.{found-at, placed-within}
 use Rattle.records.specs.Live.{live}
 use Rattle.model.specs.World.{known}
 use Rattle.model.specs.Calls.{carries, receives, onSome}
-use Rattle.model.specs.Accepts.{newPeer, onMessage, isFound, isResponse, accepts}
+use Rattle.model.specs.Accepts.{newPeer, onMessage, isResponse, accepts}
 use Rattle.model.specs.Refusals.{refusalPast}
 use Rattle.model.specs.Effects.{Change, keeps, removes, answered, receivedAs, rttAt, yesOrNo, countAfter, changeOf, answerOf, eventOf, peerCount, after}
 use Rattle.model.specs.declared.StunAgent.{StunAgent}
 use Rattle.model.specs.declared.Answer.the-variants as answer
+use Rattle.model.proofs.Received.{plain-accepted, answer-accepted, plain-change, found-change, none-change}
 use Rattle.agent.specs.Ready.{worldOf, Lent}
 use Rattle.agent.specs.Called.{calledOf, refusedWith, tried, called, noted, unless, changePast, TableAfter, Acts, optionOf, isPast, markBy, rttBy, Timely}
 use Rattle.agent.specs.declared.Called.{Called}
@@ -99,7 +100,7 @@ module _ (late : Bool) (p : Parsed) (kn : Address → Bool) (acc : Message → B
     yes-turns g true h i = rw (e, f, g, h)
     yes-turns g false h i = rw (e, f, g, h, i)
 
--- ---- what is accepted, by the class and what was found
+-- ---- what is counted, by the class and what was found
 
 plain-event : (n : ℕ) (r s : Rtt) (c : MessageClass) → isResponse c ≡ false → receivedAs n r c ≡ receivedAs n s c
 plain-event n r s Request e = refl
@@ -108,39 +109,22 @@ plain-event n r s Success e = apart e
 plain-event n r s Error e = apart e
 
 module _ (l : List StunRequestState) (from : Address) (x : Message) where
-  plain-accepted : isResponse (x .class) ≡ false → accepts l from x ≡ true
-  unfolding accepts
-  plain-accepted e = rw e
-
-  answer-accepted : isResponse (x .class) ≡ true → (f : Found) → lookup (key (x .«transaction_id»)) l ≡ f → accepts l from x ≡ isFound f
-  unfolding accepts
-  answer-accepted e f g = rw (e, g)
-
-  plain-change : isResponse (x .class) ≡ false → answered l from x ≡ keeps
-  plain-change e = rw (plain-accepted e, e)
-
-  found-change : isResponse (x .class) ≡ true → (i : ℕ) (q : StunRequestState) → lookup (key (x .«transaction_id»)) l ≡ At i q → answered l from x ≡ removes i
-  found-change e i q g = rw (answer-accepted e (At i q) g, e, g)
-
-  none-change : isResponse (x .class) ≡ true → lookup (key (x .«transaction_id»)) l ≡ Nothing → answered l from x ≡ keeps
-  none-change e g = rw (answer-accepted e Nothing g)
-
   abbrev counts : ℕ → Option ℕ → Event
   counts n clk = cond (accepts l from x) (receivedAs n (rttAt clk (lookup (key (x .«transaction_id»)) l)) (x .class)) event.Nothing
 
   plain-counts : (n : ℕ) (clk : Option ℕ) (r : Rtt) → isResponse (x .class) ≡ false → receivedAs n r (x .class) ≡ counts n clk
   plain-counts n clk r e =
       plain-event n r (rttAt clk (lookup (key (x .«transaction_id»)) l)) (x .class) e
-      ∙ ap (λ (b : Bool). cond b (receivedAs n (rttAt clk (lookup (key (x .«transaction_id»)) l)) (x .class)) event.Nothing) (sym (plain-accepted e))
+      ∙ ap (λ (b : Bool). cond b (receivedAs n (rttAt clk (lookup (key (x .«transaction_id»)) l)) (x .class)) event.Nothing) (sym (plain-accepted l from x e))
 
   found-counts : (n : ℕ) (c : Clock) → isResponse (x .class) ≡ true → (i : ℕ) (q : StunRequestState) → lookup (key (x .«transaction_id»)) l ≡ At i q
       → receivedAs n (rttBy c q) (x .class) ≡ counts n (optionOf c)
   found-counts n c e i q g =
       ap (λ (f : Found). receivedAs n (rttAt (optionOf c) f) (x .class)) (sym g)
-      ∙ ap (λ (b : Bool). cond b (receivedAs n (rttAt (optionOf c) (lookup (key (x .«transaction_id»)) l)) (x .class)) event.Nothing) (sym (answer-accepted e (At i q) g))
+      ∙ ap (λ (b : Bool). cond b (receivedAs n (rttAt (optionOf c) (lookup (key (x .«transaction_id»)) l)) (x .class)) event.Nothing) (sym (answer-accepted l from x e (At i q) g))
 
   none-counts : (n : ℕ) (clk : Option ℕ) → isResponse (x .class) ≡ true → lookup (key (x .«transaction_id»)) l ≡ Nothing → counts n clk ≡ event.Nothing
-  none-counts n clk e g = rw (answer-accepted e Nothing g)
+  none-counts n clk e g = rw (answer-accepted l from x e Nothing g)
 
 -- ---- the ways
 

@@ -15,6 +15,7 @@ use Rattle.message.specs.declared.TransactionId.{TransactionId}
 use Rattle.message.specs.declared.Message.{Message}
 use Rattle.message.specs.declared.Parsed.{Parsed}
 use Rattle.message.specs.declared.Parsed.the-variants.{Good, Bad}
+use Rattle.message.proofs.Messages.{good-length}
 use Rattle.rows.specs.Lists.{insertAt}
 use Rattle.rows.specs.Rows.{rows}
 use Rattle.stats.specs.declared.StunAgentStats.{StunAgentStats}
@@ -24,6 +25,7 @@ use Rattle.store.specs.Rows.{copied}
 use Rattle.request.specs.Limits.{NewLimits}
 use Rattle.request.specs.Request.{submitted}
 use Rattle.request.specs.declared.StunRequestState.{StunRequestState}
+use Rattle.request.proofs.Kept.{submission}
 use Rattle.requests.specs.Search.{keyOf, lookup, placeOf, freeRow}
 use Rattle.requests.specs.declared.Found.the-variants.{At, Nothing}
 use Rattle.requests.specs.declared.FreeRow.the-variants.{Row, Full}
@@ -40,7 +42,6 @@ use Rattle.model.specs.World.{World}
 use Rattle.model.specs.declared.StunAgent.{StunAgent}
 use Rattle.model.specs.declared.Answer.{Answer}
 use Rattle.model.specs.declared.Answer.the-variants as answer
-use Rattle.model.proofs.Below.{good-length, submission}
 use Rattle.model.proofs.Classes.{past-submits}
 use Rattle.agent.specs.Ready.{worldOf, Lent}
 use Rattle.agent.specs.Called.{calledOf, refusedWith, tried, called, noted, unless, changePast, TableAfter, Submits, isLate}

@@ -5,10 +5,10 @@
 -- At most one answer meets that of `build`, which is the model's equation, by the model's `one-built`.
 use Prim.Native.Nat.{ℕ, zero, suc, _<_}
 use mathlib.Core.Path.{_≡_, refl, sym, ap, _∙_}
-use mathlib.Core.Bool.{Bool, true, false, cond, _&&_}
+use mathlib.Core.Bool.{Bool, true, false, _&&_}
 use mathlib.Core.List.{List}
 use native.Mathlib.Nat.{not-suc-le-zero}
-use lib.Dec.{leb, eqb}
+use lib.Dec.{eqb}
 use lib.ListN.{length, take, replicate, length-replicate}
 use Rattle.address.specs.Address.{sameHost, sameAddress}
 use Rattle.address.specs.declared.Address.{Address}
@@ -17,20 +17,18 @@ use Rattle.address.specs.declared.Host.the-variants.{V4, V6}
 use Rattle.address.proofs.Same.{same-refl}
 use Rattle.stats.specs.Count.{zeroed}
 use Rattle.stats.specs.declared.StunAgentStats.{StunAgentStats}
-use Rattle.records.specs.Coding.{size}
 use Rattle.peers.specs.Peers.{listed}
 use Rattle.model.specs.World.{World}
 use Rattle.model.specs.Calls.{Kind}
-use Rattle.model.specs.Refusals.{refusalOf}
-use Rattle.model.specs.Says.{Said, numberIn}
+use Rattle.model.specs.Effects.{answerOf, after}
+use Rattle.model.specs.Says.{Said, numberIn, decided}
 use Rattle.model.specs.declared.StunAgent.{StunAgent}
 use Rattle.model.specs.declared.Call.{Call}
-use Rattle.model.proofs.Refused.{passed-does}
-use Rattle.model.proofs.Answers.{answer-number}
 use Rattle.agent.specs.Ready.{HandsOut}
 use Rattle.agent.specs.Called.{refusedWith, tried, effect}
-use Rattle.agent.specs.Said.{refusalIn, saidIn, wordsIn, Does, nowhere, addressIn, Dispatched}
+use Rattle.agent.specs.Said.{refusalIn, Does, nowhere, addressIn, Dispatched}
 use Rattle.agent.specs.declared.Called.{Called}
+use Rattle.agent.proofs.Said.{said-by, said-number, said-refused, words-refused}
 
 -- ---- a call
 
@@ -39,21 +37,22 @@ module _ (w : World) (k : Kind) (m t t′ store′ : List ℕ) (r : Called) (d :
   one-outcome t″ store″ s e = (d .says ∙ sym (e .says), d .words ∙ sym (e .words), d .stores ∙ sym (e .stores))
 
   pub answer-says : numberIn (r .answer) ≡ refusalIn t w k m
-  unfolding refusalIn
-  answer-says = ap (λ (x : Called). numberIn (x .answer)) (d .says) ∙ go (leb size (length t)) (refusalOf 32 w k m) refl
+  answer-says =
+      ap (λ (x : Called). numberIn (x .answer)) (d .says)
+      ∙ (go (refusalIn t w k m) ∙ ap (λ (s : Said). numberIn (s .answer)) (sym (said-by t w k m)))
+      ∙ said-number t w k m
     where
-      go : (b : Bool) (n : ℕ) → refusalOf 32 w k m ≡ n → numberIn (tried (cond b n 1) (w .agent) (effect 32 w k m) .answer) ≡ cond b n 1
-      go true zero e = ap (λ (s : Said). numberIn (s .answer)) (sym (passed-does 32 w k m e)) ∙ answer-number 32 w m k ∙ e
-      go true (suc n) e = refl
-      go false n e = refl
+      go : (n : ℕ) → numberIn (tried n (w .agent) (effect 32 w k m) .answer)
+          ≡ numberIn (decided n w (record { answer = answerOf 32 w k m; world = after 32 w k m }) .answer)
+      go zero = refl
+      go (suc n) = refl
 
   -- "A refused call answers its number and leaves state, statistics, store and peers unchanged, the clock mark included": no event is to
   -- be counted, and no peer to be put down.
   pub refused-same : (n : ℕ) → numberIn (r .answer) ≡ suc n → (r ≡ refusedWith (w .agent) (suc n)) × (t′ ≡ t) × (store′ ≡ w .store)
-  unfolding saidIn wordsIn
   refused-same n e =
       let is : refusalIn t w k m ≡ suc n = sym answer-says ∙ e in
-      (d .says ∙ rw is, d .words ∙ rw is, d .stores ∙ rw is)
+      (d .says ∙ rw is, d .words ∙ words-refused t w k m n is, d .stores ∙ ap (λ (s : Said). s .world .store) (said-refused t w k m n is))
 
 -- ---- peers, so many, among the first n of which an address is or isn't
 

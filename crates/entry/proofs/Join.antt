@@ -26,6 +26,7 @@ use Rattle.agent.specs.Ready.{worldWith, worldOf}
 use Rattle.agent.specs.Called.{tried, effect, placeOf}
 use Rattle.agent.specs.Said.{refusalIn, saidIn, Does, nowhere, addressIn, Dispatched}
 use Rattle.agent.specs.declared.Called.{Called}
+use Rattle.agent.proofs.Said.{said-by}
 use Rattle.agent.specs.declared.Place.the-variants as place
 use Rattle.entry.specs.Entry.{indexOf, Settled, Performed}
 use Rattle.entry.specs.declared.Answered.{Answered}
@@ -64,8 +65,7 @@ module _ (w : World) (k : Kind) (m : List ℕ) where
   gives (suc n) = (refl, refl, set-out (w .peers) (length (w .peers)) carried (le-refl _), sym (nothing (w .stats)))
 
   given : (t t′ store′ : List ℕ) (o : Called) → Does w k m t t′ store′ o → Gives o (saidIn t w k m)
-  unfolding saidIn
-  given t t′ store′ o d = rw (d .says) (gives (refusalIn t w k m))
+  given t t′ store′ o d = rw (d .says, said-by t w k m) (gives (refusalIn t w k m))
 
 -- What the host has, by its parts.
 told : {x y : Answer} {a b : StunAgent} {l k : List StunRequestState} {store mem : List ℕ} {peers places : List Address} {st nd : StunAgentStats}

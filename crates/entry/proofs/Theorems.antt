@@ -1,5 +1,4 @@
 -- What follows of `Performed`, which `call`, `door` and `step` promise, and of `Started`, which `start` promises.
---     refused-in, short-in, passed-in                    the model's refusals, of a table that may be too short
 --     as-model                                           of a table with all its rows a call is the model's
 --     refused-exactly, short-refused, passed-exactly     which number a call answers, and when it isn't refused
 --     refused-same                                       a refused call changes nothing: agent, table, store, peers and statistics
@@ -13,10 +12,7 @@ use mathlib.Core.Path.{_≡_, refl, sym, ap, subst, _∙_}
 use mathlib.Core.Bool.{Bool, true, false}
 use mathlib.Core.Logic.{_↔_}
 use mathlib.Core.List.{List}
-use native.Mathlib.Omega.{arith}
-use lib.Dec.{leb}
 use lib.ListN.{length, getD}
-use borrow.Author.Tests.{le-leb, lt-leb, leb-true, leb-false}
 use Rattle.address.specs.declared.Address.{Address}
 use Rattle.waits.specs.Waits.{withinLimits}
 use Rattle.stats.specs.Count.{counted, zeroed}
@@ -24,81 +20,25 @@ use Rattle.stats.specs.declared.StunAgentStats.{StunAgentStats}
 use Rattle.stats.proofs.Fields.{nothing, reset}
 use Rattle.records.specs.Coding.{size}
 use Rattle.model.specs.World.{World, StateFormed}
-use Rattle.model.specs.Calls.{Kind, kindOf}
-use Rattle.model.specs.Refusals.{Refusal, STATE, SETTINGS, numberOf, holds, refusalOf}
+use Rattle.model.specs.Calls.{kindOf}
+use Rattle.model.specs.Refusals.{Refusal, SETTINGS, numberOf, holds}
 use Rattle.model.specs.Fresh.{buildOf}
-use Rattle.model.specs.Says.{Said, numberIn, saysOf, says as modelSays}
+use Rattle.model.specs.Says.{Said, numberIn, says as modelSays}
 use Rattle.model.specs.declared.StunAgent.{StunAgent}
 use Rattle.model.specs.declared.StunAgentBuilder.{StunAgentBuilder}
 use Rattle.model.specs.declared.Built.{Built}
 use Rattle.model.specs.declared.Built.the-variants.{Refused}
 use Rattle.model.specs.declared.Call.{Call}
 use Rattle.model.specs.declared.Answer.the-variants as answer
-use Rattle.model.proofs.Refused as model
-use Rattle.model.proofs.Answers.{answer-number}
+use Rattle.model.proofs.Default.{build-refused, build-fresh}
 use Rattle.model.proofs.Kept.{says-formed}
 use Rattle.model.proofs.Peers.{says-peers}
 use Rattle.model.proofs.Statistics as statistics
 use Rattle.agent.specs.Ready.{worldOf}
-use Rattle.agent.specs.Said.{refusalIn, saidIn, wordsIn}
+use Rattle.agent.specs.Said.{refusalIn, saidIn}
+use Rattle.agent.proofs.Said.{refused-in, short-in, passed-in, said-whole, by-model, said-number, said-refused, words-refused}
 use Rattle.entry.specs.Entry.{toldOf, Performed, eventIn, Started}
 use Rattle.entry.specs.declared.Answered.{Answered}
-
--- ---- the model's theorems, of a table that may be too short
-
-module _ (t : List ℕ) (w : World) (k : Kind) (m : List ℕ) where
-  whole-in : size ≤ length t → refusalIn t w k m ≡ refusalOf 32 w k m
-  unfolding refusalIn
-  whole-in h = rw (le-leb size (length t) h)
-
-  pub refused-in : size ≤ length t → (r : Refusal)
-      → (refusalIn t w k m ≡ numberOf r) ↔ ((holds 32 w k m r ≡ true) × ((q : Refusal) → numberOf q < numberOf r → holds 32 w k m q ≡ false))
-  refused-in h r = rw (whole-in h) (model.refused-exactly 32 w k m r)
-
-  pub short-in : length t < size → refusalIn t w k m ≡ numberOf STATE
-  unfolding refusalIn
-  short-in h = rw (lt-leb size (length t) h)
-
-  pub passed-in : (refusalIn t w k m ≡ 0) ↔ ((size ≤ length t) × ((r : Refusal) → holds 32 w k m r ≡ false))
-  passed-in = (to (leb size (length t)) refl, λ p. whole-in (p .0) ∙ model.passed-exactly 32 w k m .1 (p .1))
-    where
-      to : (b : Bool) → leb size (length t) ≡ b → refusalIn t w k m ≡ 0 → (size ≤ length t) × ((r : Refusal) → holds 32 w k m r ≡ false)
-      to true e z =
-          let h = leb-true size (length t) e in
-          (h, model.passed-exactly 32 w k m .0 (sym (whole-in h) ∙ z))
-      to false e z = absurd (omega (arith, short-in (leb-false size (length t) e), z))
-
-  said-whole : leb size (length t) ≡ true → saidIn t w k m ≡ saysOf 32 w k m
-  unfolding saidIn refusalIn saysOf
-  said-whole e = rw e
-
-  said-short : leb size (length t) ≡ false → saidIn t w k m ≡ record { answer = answer.Refused 1; world = w }
-  unfolding saidIn refusalIn
-  said-short e = rw e
-
-  -- What holds of the model's outcome, and of a refusal that changes nothing, holds of the outcome.
-  by-model : (Q : Said → Type 0) → Q (saysOf 32 w k m) → Q (record { answer = answer.Refused 1; world = w }) → Q (saidIn t w k m)
-  by-model Q h g = go (leb size (length t)) refl
-    where
-      go : (b : Bool) → leb size (length t) ≡ b → Q (saidIn t w k m)
-      go true e = subst Q (sym (said-whole e)) h
-      go false e = subst Q (sym (said-short e)) g
-
-  said-number : numberIn (saidIn t w k m .answer) ≡ refusalIn t w k m
-  said-number = go (leb size (length t)) refl
-    where
-      go : (b : Bool) → leb size (length t) ≡ b → numberIn (saidIn t w k m .answer) ≡ refusalIn t w k m
-      go true e =
-          ap (λ (s : Said). numberIn (s .answer)) (said-whole e) ∙ answer-number 32 w m k ∙ sym (whole-in (leb-true size (length t) e))
-      go false e = ap (λ (s : Said). numberIn (s .answer)) (said-short e) ∙ sym (short-in (leb-false size (length t) e))
-
-  said-refused : (n : ℕ) → refusalIn t w k m ≡ suc n → saidIn t w k m ≡ record { answer = answer.Refused (suc n); world = w }
-  unfolding saidIn
-  said-refused n e = rw e
-
-  words-refused : (n : ℕ) → refusalIn t w k m ≡ suc n → wordsIn t w k m ≡ t
-  unfolding wordsIn
-  words-refused n e = rw e
 
 -- ---- a call
 
@@ -134,7 +74,7 @@ module _
   of-said Q h = subst Q (sym (p .says)) h
 
   pub as-model : size ≤ length t → toldOf r t′ store′ peers′ st′ ≡ modelSays 32 w c m
-  as-model h = p .says ∙ said-whole t w (kindOf c) m (le-leb size (length t) h)
+  as-model h = p .says ∙ said-whole t w (kindOf c) m h
 
   -- Of any table the answer tells the refusal.
   pub numbered : numberIn (r .answer) ≡ refusalIn t w (kindOf c) m
@@ -205,21 +145,20 @@ module _ (b : StunAgentBuilder) (st st′ : StunAgentStats) (r : Built) (p : Sta
       let z : r ≡ r″ = p .says ∙ sym (q .says) in
       (z, p .records ∙ ap (λ (x : Built). counted (eventIn x) st) z ∙ sym (q .records))
 
+  -- What is counted, by what `build` answers.
+  records-by : {y : Built} → buildOf b ≡ y → st′ ≡ counted (eventIn y) st
+  records-by e = p .records ∙ ap (λ (x : Built). counted (eventIn x) st) (p .says ∙ e)
+
   -- "The record zeroed if statistics are on."
   pub start-zeroed : withinLimits (b .rto) ≡ true → b .stats ≡ true → st′ ≡ zeroed
-  unfolding buildOf
-  start-zeroed within on = p .records ∙ ap (λ (x : Built). counted (eventIn x) st) (p .says) ∙ rw (within, on) (sym (reset st))
+  start-zeroed within on = records-by (build-fresh b within) ∙ rw on (sym (reset st))
 
   pub start-off : b .stats ≡ false → st′ ≡ st
-  unfolding buildOf
-  start-off off = p .records ∙ ap (λ (x : Built). counted (eventIn x) st) (p .says) ∙ go (withinLimits (b .rto)) refl
+  start-off off = go (withinLimits (b .rto)) refl
     where
-      go : (t : Bool) → withinLimits (b .rto) ≡ t → counted (eventIn (buildOf b)) st ≡ st
-      go true within = rw (within, off) (sym (nothing st))
-      go false within = rw within (sym (nothing st))
+      go : (t : Bool) → withinLimits (b .rto) ≡ t → st′ ≡ st
+      go true within = records-by (build-fresh b within) ∙ rw off (sym (nothing st))
+      go false past = records-by (build-refused b past) ∙ sym (nothing st)
 
   pub start-refused : withinLimits (b .rto) ≡ false → (r ≡ Refused (numberOf SETTINGS)) × (st′ ≡ st)
-  unfolding buildOf
-  start-refused past =
-      let z : buildOf b ≡ Refused (numberOf SETTINGS) = rw past in
-      (p .says ∙ z, p .records ∙ ap (λ (x : Built). counted (eventIn x) st) (p .says ∙ z) ∙ sym (nothing st))
+  start-refused past = (p .says ∙ build-refused b past, records-by (build-refused b past) ∙ sym (nothing st))

@@ -2,5 +2,5 @@
 pub mod Identifiers
 pub mod Classes
 mod Heads
-mod Messages
+pub mod Messages
 mod Walks

@@ -20,6 +20,7 @@ use Rattle.message.specs.declared.TransactionId.{TransactionId}
 use Rattle.message.specs.declared.Message.{Message}
 use Rattle.message.specs.declared.Parsed.{Parsed}
 use Rattle.message.specs.declared.Parsed.the-variants.{Good, Bad}
+use Rattle.message.proofs.Messages.{good-length}
 use Rattle.waits.specs.Waits as waits
 use Rattle.waits.specs.declared.Transport.{Transport}
 use Rattle.waits.proofs.Limits as waits-limits
@@ -27,7 +28,7 @@ use Rattle.request.specs.Request.{submitted}
 use Rattle.request.specs.Kept.{SameRequest}
 use Rattle.request.specs.Limits.{RequestLimits}
 use Rattle.request.specs.declared.StunRequestState.{StunRequestState}
-use Rattle.request.proofs.Kept.{same-silenced, same-cancelled, same-configured}
+use Rattle.request.proofs.Kept.{submission, same-silenced, same-cancelled, same-configured}
 use Rattle.request.proofs.Limits.{submitted-limits, silenced-limits, cancelled-limits, configured-limits}
 use Rattle.requests.specs.Search.{keyOf, rowOf, lookup, placeOf, freeRow}
 use Rattle.requests.specs.Scan.{hour, pollAll}
@@ -49,7 +50,6 @@ use Rattle.model.specs.Calls.{submits, sends, receives, transmits, repor
 use Rattle.model.specs.Accepts.{onMessage, isFound, isOutstanding, isResponse, accepts, newPeer}
 use Rattle.model.specs.Refusals.{SETTINGS, CLOCK, TOO-LONG, IN-PROGRESS, PEERS-FULL, Refusal, holds}
 use Rattle.model.specs.Effects.{onFound, onRow, Change, keeps, adds, removes, sets, steps, changed, countAfter, newRequest, taken, answered, reported, wished, changeOf, markAfter}
-use Rattle.model.proofs.Below.{good-length, submission}
 
 -- ---- what a change has to be
 

@@ -18,7 +18,7 @@ use Rattle.waits.specs.Waits.{milliseconds, defaultRto, withinLimits, finalWait
 use Rattle.waits.specs.declared.Transport.{Transport}
 use Rattle.waits.specs.declared.Transport.the-variants.{Udp, Tcp}
 use Rattle.waits.specs.declared.RequestRto.{RequestRto}
-use Rattle.waits.proofs.Limits.{within-limits}
+use Rattle.waits.proofs.Limits.{within-limits, default-limits}
 use Rattle.waits.proofs.Doubling.{default-final, default-span-stream}
 use Rattle.stats.specs.declared.StunAgentStats.{StunAgentStats}
 use Rattle.stats.specs.declared.Event.{Event}
@@ -27,15 +27,16 @@ use Rattle.request.specs.Request.{pollOf}
 use Rattle.request.specs.declared.SendTimes.the-variants.{Sent}
 use Rattle.request.specs.declared.StunRequestState.{StunRequestState}
 use Rattle.request.specs.declared.StunRequestPollRet.the-variants.{TimedOut}
+use Rattle.request.proofs.Answers.{timed-out-exactly}
+use Rattle.request.proofs.Kept.{submission}
 use Rattle.model.specs.World.{World}
 use Rattle.model.specs.Refusals.{SETTINGS, numberOf}
 use Rattle.model.specs.Says.{Said}
 use Rattle.model.specs.Fresh.{freshAgent, freshEvent, unset, buildOf, fresh}
-use Rattle.model.specs.Runs.{Turn, left}
+use Rattle.model.specs.Runs.{Turn, run}
 use Rattle.model.specs.declared.StunAgent.{StunAgent}
 use Rattle.model.specs.declared.StunAgentBuilder.{StunAgentBuilder}
 use Rattle.model.specs.declared.Built.the-variants.{Refused, Fresh}
-use Rattle.model.proofs.Below.{default-limits, timed-out-exactly, submission}
 use Rattle.model.proofs.Kept.{run-agent}
 use Rattle.model.proofs.Store.{RequestAccepted}
 
@@ -70,10 +71,10 @@ accepted-settings rows w to now m s a =
 
 -- Of an agent built with its settings left unset, after any calls.
 pub unset-accepted : (rows : ℕ) (t : Transport) (stats : Bool) (store : List ℕ) (peers : List Address) (st : StunAgentStats) (ts : List Turn) (to : Address) (now : ℕ) (m : List ℕ) (s : Said)
-    → (a : RequestAccepted rows (left rows (fresh t stats (unset t .rto) store peers st) ts) to now m s) → a .request .rto ≡ defaultRto
+    → (a : RequestAccepted rows (run rows (fresh t stats (unset t .rto) store peers st) ts) to now m s) → a .request .rto ≡ defaultRto
 unset-accepted rows t stats store peers st ts to now m s a =
     let start = fresh t stats (unset t .rto) store peers st in
-    accepted-settings rows (left rows start ts) to now m s a ∙ run-agent rows ts start .rto
+    accepted-settings rows (run rows start ts) to now m s a ∙ run-agent rows ts start .rto
 
 -- A request with the default settings that wasn't cancelled and has no step left.
 module _ (now : ℕ) (r : StunRequestState) (first last : ℕ) (sent : r .«send_times» ≡ Sent first last) (kept : r .«recv_cancelled» ≡ false) (default : r .rto ≡ defaultRto) where

@@ -15,7 +15,7 @@ use Rattle.model.specs.Refusals.{Refusal, holds, refusalOf}
 use Rattle.model.specs.Effects.{Change, keeps, adds, removes, sets, steps, countAfter, changeOf, storedBy, markAfter, after}
 use Rattle.model.specs.Says.{saysOf, says}
 use Rattle.model.specs.declared.StunAgent.{StunAgent}
-use Rattle.model.specs.Runs.{Turn, left}
+use Rattle.model.specs.Runs.{Turn, run}
 use Rattle.model.specs.declared.Call.{Call}
 use Rattle.model.proofs.Refused.{passed-exactly, refused-same, passed-does}
 use Rattle.model.proofs.Changes.{change-fits, mark-later, mark-most, changed-formed, changed-count}
@@ -73,14 +73,12 @@ module _ (rows : ℕ) (w : World) (k : Kind) (m : List ℕ) where
 pub call-formed : (rows : ℕ) (w : World) (c : Call) (m : List ℕ) → StateFormed rows w → StateFormed rows (says rows w c m .world)
 call-formed rows w c m formed = says-formed rows w (kindOf c) m formed
 
-pub run-formed : (rows : ℕ) (ts : List Turn) (w : World) → StateFormed rows w → StateFormed rows (left rows w ts)
-unfolding left
+pub run-formed : (rows : ℕ) (ts : List Turn) (w : World) → StateFormed rows w → StateFormed rows (run rows w ts)
 run-formed rows [] w formed = formed
 run-formed rows (t ∷ ts) w formed =
     run-formed rows ts (says rows w (t .made) (t .bytes) .world) (call-formed rows w (t .made) (t .bytes) formed)
 
-pub run-agent : (rows : ℕ) (ts : List Turn) (w : World) → SameBuild (w .agent) (left rows w ts .agent)
-unfolding left
+pub run-agent : (rows : ℕ) (ts : List Turn) (w : World) → SameBuild (w .agent) (run rows w ts .agent)
 run-agent rows [] w = record { transport = refl; stats = refl; rto = refl }
 run-agent rows (t ∷ ts) w =
     let one = says-agent rows w (kindOf (t .made)) (t .bytes) in

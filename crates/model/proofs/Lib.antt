@@ -1,8 +1,6 @@
 -- Theorems about the model, for the agent's code and for the theorems over runs. `Worked` and `Useless` are values of it, by computation.
 mod Worked
 mod Useless
--- what the layers below say, and their laws don't
-pub mod Below
 -- refusals
 pub mod Refused
 pub mod State

@@ -17,6 +17,7 @@ use Rattle.address.specs.declared.Address.{Address}
 use Rattle.message.specs.Attributes.{messageOf}
 use Rattle.message.specs.declared.Parsed.{Parsed}
 use Rattle.message.specs.declared.Parsed.the-variants.{Good, Bad}
+use Rattle.requests.proofs.Lists.{none-some}
 use Rattle.model.specs.World.{World, known}
 use Rattle.model.specs.Calls.{submits, sends, receives, ask, validate, Kind, carries, scans, names, meets, counts, addressOf, onSome}
 use Rattle.model.specs.Accepts.{onMessage, accepts, validated, newPeer}
@@ -25,9 +26,6 @@ use Rattle.model.specs.Effects.{peerPlace, peersAfter, peerCount, after}
 use Rattle.model.specs.Says.{saysOf}
 use Rattle.model.proofs.Refused.{refused-same, passed-does}
 use Rattle.model.proofs.Changes.{peer-fits}
-
-absent : {A C : Type 0} {a : A} → none ≡ some a → C
-absent e = absurd (let z : _≡_ {A = ℕ} 0 1 = cc in omega arith)
 
 module _ (w : World) (k : Kind) (m : List ℕ) where
   pub length-peers : length (peersAfter w k m) ≡ length (w .peers)
@@ -58,33 +56,33 @@ module _ (w : World) (k : Kind) (m : List ℕ) where
 
   -- The address that a call validates is the one that it carries.
   carried : (k : Kind) (a : Address) → validated w k m ≡ some a → addressOf k ≡ some a
-  carried (carries (submits to now)) a e = absent e
-  carried (carries (sends to)) a e = absent e
+  carried (carries (submits to now)) a e = none-some e
+  carried (carries (sends to)) a e = none-some e
   carried (carries (receives from clock)) a e = go (messageOf m) e
     where
       choice : (b : Bool) → cond b (some from) none ≡ some a → some from ≡ some a
       choice true e = e
-      choice false e = absent e
+      choice false e = none-some e
 
       go : (p : Parsed) → onMessage p none (λ x. cond (accepts (w .requests) from x) (some from) none) ≡ some a → some from ≡ some a
       go (Good x) e = choice (accepts (w .requests) from x) e
-      go Bad e = absent e
-  carried (scans s now) a e = absent e
-  carried (names id wish) a e = absent e
-  carried (meets b ask) a e = absent e
+      go Bad e = none-some e
+  carried (scans s now) a e = none-some e
+  carried (names id wish) a e = none-some e
+  carried (meets b ask) a e = none-some e
   carried (meets b validate) a e = e
-  carried (counts f) a e = absent e
+  carried (counts f) a e = none-some e
 
   new-carried : (a : Address) → newPeer w k m ≡ some a → addressOf k ≡ some a
   unfolding newPeer
   new-carried a e = carried k a (go (validated w k m) e)
     where
       choice : (t : Bool) (b : Address) → cond t none (some b) ≡ some a → some b ≡ some a
-      choice true b e = absent e
+      choice true b e = none-some e
       choice false b e = e
 
       go : (o : Option Address) → onSome o none (λ b. cond (known w b) none (some b)) ≡ some a → o ≡ some a
-      go none e = absent e
+      go none e = none-some e
       go (some b) e = choice (known w b) b e
 
   -- One store does it for every call: the call's address, or any other where it carries none, put at the place; the list's length is

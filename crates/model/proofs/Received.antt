@@ -1,4 +1,6 @@
--- What a received message does, of a call that isn't refused: document 01, "The agent". Only `response-found` opens `accepts`.
+-- What a received message does, of a call that isn't refused: document 01, "The agent". Only the first two open `accepts`.
+--     plain-accepted, answer-accepted       what is accepted, by the class and what is found
+--     plain-change, found-change, none-change    and what that changes
 --     response-found                        an accepted response has its request
 --     not-accepted                          only the clock mark moves
 --     accepted-yes                          an accepted message is answered with yes
@@ -36,22 +38,40 @@ use Rattle.model.specs.World.{World, StateFormed, known}
 use Rattle.model.specs.Calls.{receives, Kind, carries}
 use Rattle.model.specs.Accepts.{isFound, isResponse, accepts, validated, newPeer}
 use Rattle.model.specs.Refusals.{refusalOf}
-use Rattle.model.specs.Effects.{Change, keeps, removes, changed, changeOf, answerOf, eventOf, markAfter, peersAfter, peerCount, afterBy, after}
+use Rattle.model.specs.Effects.{Change, keeps, removes, answered, changed, changeOf, answerOf, eventOf, markAfter, peersAfter, peerCount, afterBy, after}
 use Rattle.model.specs.Says.{Said, saysOf}
 use Rattle.model.specs.declared.Answer.the-variants as answer
 use Rattle.model.proofs.Refused.{passed-exactly, refused-same, passed-does}
 use Rattle.model.proofs.Changes.{peer-fits}
 use Rattle.model.proofs.Peers.{peer-joined, peers-same}
 
--- An accepted response has its request.
-pub response-found : (l : List StunRequestState) (from : Address) (x : Message) → accepts l from x ≡ true → isResponse (x .class) ≡ true
-    → (i : ℕ) × (r : StunRequestState) × (lookup (key (x .«transaction_id»)) l ≡ At i r)
-unfolding accepts
-response-found l from x taken response = go (lookup (key (x .«transaction_id»)) l) (rw response at taken)
-  where
-    go : (f : Found) → isFound f ≡ true → (i : ℕ) × (r : StunRequestState) × (f ≡ At i r)
-    go (At i r) e = (i, r, refl)
-    go Nothing e = apart (sym e)
+-- What is accepted and what that changes, by the class and what is found.
+module _ (l : List StunRequestState) (from : Address) (x : Message) where
+  pub plain-accepted : isResponse (x .class) ≡ false → accepts l from x ≡ true
+  unfolding accepts
+  plain-accepted e = rw e
+
+  pub answer-accepted : isResponse (x .class) ≡ true → (f : Found) → lookup (key (x .«transaction_id»)) l ≡ f → accepts l from x ≡ isFound f
+  unfolding accepts
+  answer-accepted e f g = rw (e, g)
+
+  pub plain-change : isResponse (x .class) ≡ false → answered l from x ≡ keeps
+  plain-change e = rw (plain-accepted e, e)
+
+  pub found-change : isResponse (x .class) ≡ true → (i : ℕ) (q : StunRequestState) → lookup (key (x .«transaction_id»)) l ≡ At i q → answered l from x ≡ removes i
+  found-change e i q g = rw (answer-accepted e (At i q) g, e, g)
+
+  pub none-change : isResponse (x .class) ≡ true → lookup (key (x .«transaction_id»)) l ≡ Nothing → answered l from x ≡ keeps
+  none-change e g = rw (answer-accepted e Nothing g)
+
+  -- An accepted response has its request.
+  pub response-found : accepts l from x ≡ true → isResponse (x .class) ≡ true
+      → (i : ℕ) × (r : StunRequestState) × (lookup (key (x .«transaction_id»)) l ≡ At i r)
+  response-found taken response = go (lookup (key (x .«transaction_id»)) l) refl
+    where
+      go : (f : Found) → lookup (key (x .«transaction_id»)) l ≡ f → (i : ℕ) × (r : StunRequestState) × (f ≡ At i r)
+      go (At i r) e = (i, r, refl)
+      go Nothing e = apart (sym taken ∙ answer-accepted response Nothing e)
 
 -- The same world at another clock mark.
 abbrev pub marked : ℕ → World → World

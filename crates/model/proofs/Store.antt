@@ -5,9 +5,9 @@
 --     store-other         any other call
 use Prim.Native.Nat.{ℕ, zero, suc, _+_, _*_, _≤_, _<_}
 use mathlib.Core.Path.{_≡_, refl, sym, ap, _∙_, subst}
-use mathlib.Core.Bool.{Bool, true, false, cond, not, _&&_, and-false}
+use mathlib.Core.Bool.{Bool, true, false, cond, not, and-false}
 use mathlib.Core.Logic.{_⊎_}
-use mathlib.Core.List.{List, [], _∷_}
+use mathlib.Core.List.{List, []}
 use mathlib.Core.Option.{some}
 use native.Mathlib.Omega.{arith}
 use lib.ListN.{length, getD}
@@ -22,9 +22,10 @@ use Rattle.message.specs.declared.Message.{Message}
 use Rattle.message.specs.declared.Parsed.{Parsed}
 use Rattle.message.specs.declared.Parsed.the-variants.{Good, Bad}
 use Rattle.store.specs.Rows.{inStore, copied, partOf}
-use Rattle.store.proofs.Rows.{in-store, part-copied, length-copied}
+use Rattle.store.proofs.Rows.{in-store, part-copied, byte-kept, length-copied}
 use Rattle.request.specs.Request.{submitted}
 use Rattle.request.specs.declared.StunRequestState.{StunRequestState}
+use Rattle.request.proofs.Kept.{Submission, submission}
 use Rattle.requests.specs.Search.{lookup, placeOf, added, freeRow}
 use Rattle.requests.specs.Scan.{pollAll}
 use Rattle.requests.specs.declared.Found.{Found}
@@ -45,7 +46,6 @@ use Rattle.requests.specs.Use.{inUse}
 use Rattle.requests.proofs.Use.{own-in-use}
 use Rattle.model.specs.Parts.{transmissionOf}
 use Rattle.model.specs.declared.Answer.the-variants as answer
-use Rattle.model.proofs.Below.{Submission, submission, byte-kept}
 use Rattle.model.proofs.Refused.{passed-exactly, refused-same, passed-does}
 use Rattle.model.proofs.State.{state-exactly}
 use Rattle.model.proofs.Changes.{Joins, change-fits}

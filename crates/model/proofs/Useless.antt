@@ -19,7 +19,7 @@ use Rattle.model.specs.Accepts as accepts
 use Rattle.model.specs.Refusals as refusals
 use Rattle.model.specs.Effects as effects
 use Rattle.model.specs.Says as says
-use Rattle.model.specs.Runs.{left}
+use Rattle.model.specs.Runs.{run}
 use Rattle.model.specs.Worked as worked
 use Rattle.model.specs.World.{World}
 use Rattle.model.specs.Says.{Said}
@@ -33,12 +33,12 @@ use Rattle.model.specs.declared.Answer.the-variants as answer
 record Says : Type 0 where
   first : says.says 32 exampleStart (call.SendRequest (peer 9) 0) (request 1) .answer ≡ answer.Send (ending 1) (peer 9) 0 20
   stands : length (says.says 32 exampleStart (call.SendRequest (peer 9) 0) (request 1) .world .requests) ≡ 1
-  again : says.says 32 (left 32 exampleStart (take 2 exampleCalls)) (call.PollTransmit 500000000) [] .answer ≡ answer.Send (ending 1) (peer 9) 0 20
-  ended : says.says 32 (left 32 exampleStart (take 3 exampleCalls)) (call.Poll 8500000000) [] .answer ≡ answer.TimedOut (ending 1)
+  again : says.says 32 (run 32 exampleStart (take 2 exampleCalls)) (call.PollTransmit 500000000) [] .answer ≡ answer.Send (ending 1) (peer 9) 0 20
+  ended : says.says 32 (run 32 exampleStart (take 3 exampleCalls)) (call.Poll 8500000000) [] .answer ≡ answer.TimedOut (ending 1)
   counts : says.says 32 counting (call.SendRequest (peer 9) 0) (request 1) .world .stats ≡ figures 1 0 0 0 20 0
 
 it-says : Says
-unfolding left worked.message says.saysOf world.stateFormed accepts.accepts accepts.newPeer refusals.refusalOf effects.newRequest effects.changeOf effects.answerOf effects.eventOf effects.peersAfter effects.peerCount effects.after waits.withinLimits waits.sumOf waits.finalWait waits.defaultRto formed.formed limits.withinLimits one.submitted one.stepped one.silenced one.cancelled one.configured one.transmitOf one.pollOf times.passedAll times.dueOf times.endOf times.isDue times.isOver times.momentOf times.rttOf head.key head.idAt head.classOf head.headGood head.readHead head.headOf attributes.attributesFrom attributes.later attributes.walkOf attributes.messageOf count.counted figures.averageOf figures.outstandingOf store.inStore store.stored store.copied
+unfolding worked.message says.saysOf world.stateFormed accepts.accepts accepts.newPeer refusals.refusalOf effects.newRequest effects.changeOf effects.answerOf effects.eventOf effects.peersAfter effects.peerCount effects.after waits.withinLimits waits.sumOf waits.finalWait waits.defaultRto formed.formed limits.withinLimits one.submitted one.stepped one.silenced one.cancelled one.configured one.transmitOf one.pollOf times.passedAll times.dueOf times.endOf times.isDue times.isOver times.momentOf times.rttOf head.key head.idAt head.classOf head.headGood head.readHead head.headOf attributes.attributesFrom attributes.later attributes.walkOf attributes.messageOf count.counted figures.averageOf figures.outstandingOf store.inStore store.stored store.copied
 it-says = record { first = refl; stands = refl; again = refl; ended = refl; counts = refl }
 
 module _ (b : Build) (meets : Meets 32 b) where
@@ -52,7 +52,7 @@ module _ (b : Build) (meets : Meets 32 b) where
       let z : _≡_ {A = ℕ} 0 1 = cc in
       omega arith
   not-useless (always-says-wait f) =
-      let x = f (left 32 exampleStart (take 3 exampleCalls)) 8500000000 [] in
+      let x = f (run 32 exampleStart (take 3 exampleCalls)) 8500000000 [] in
       let e : answer.Wait (x .0) ≡ answer.TimedOut (ending 1) = sym (x .1) ∙ answers _ _ _ ∙ it-says .ended in
       let z : _≡_ {A = ℕ} 0 1 = cc in
       omega arith
@@ -63,6 +63,6 @@ module _ (b : Build) (meets : Meets 32 b) where
       ∙ ap (λ (s : Said). length (s .world .requests)) (meets exampleStart (call.SendRequest (peer 9) 0) (request 1)) ∙ it-says .stands in
       omega arith
   not-useless (only-moves-the-count f) =
-      f (left 32 exampleStart (take 2 exampleCalls)) 500000000 [] (ending 1) (peer 9) 0 20 (answers _ _ _ ∙ it-says .again)
+      f (run 32 exampleStart (take 2 exampleCalls)) 500000000 [] (ending 1) (peer 9) 0 20 (answers _ _ _ ∙ it-says .again)
   not-useless (invents-counters f) =
       f (ap (λ (s : Said). s .world .stats) (meets counting (call.SendRequest (peer 9) 0) (request 1)) ∙ it-says .counts)

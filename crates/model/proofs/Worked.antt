@@ -16,12 +16,11 @@ use Rattle.model.specs.Refusals as refusals
 use Rattle.model.specs.Effects as effects
 use Rattle.model.specs.Says as says
 use Rattle.model.specs.Parts as parts
-use Rattle.model.specs.Runs as runs
 use Rattle.model.specs.Worked as worked
 use Rattle.model.specs.Worked.{Values}
 
 pub values : Values
-unfolding runs.answers runs.left parts.transmissionOf store.partOf worked.message says.saysOf world.stateFormed accepts.accepts accepts.newPeer refusals.refusalOf effects.newRequest effects.changeOf effects.answerOf effects.eventOf effects.peersAfter effects.peerCount effects.after waits.withinLimits waits.sumOf waits.finalWait waits.defaultRto formed.formed limits.withinLimits one.submitted one.stepped one.silenced one.cancelled one.configured one.transmitOf one.pollOf times.passedAll times.dueOf times.endOf times.isDue times.isOver times.momentOf times.rttOf head.key head.idAt head.classOf head.headGood head.readHead head.headOf attributes.attributesFrom attributes.later attributes.walkOf attributes.messageOf count.counted figures.averageOf figures.outstandingOf store.inStore store.stored store.copied
+unfolding parts.transmissionOf store.partOf worked.message says.saysOf world.stateFormed accepts.accepts accepts.newPeer refusals.refusalOf effects.newRequest effects.changeOf effects.answerOf effects.eventOf effects.peersAfter effects.peerCount effects.after waits.withinLimits waits.sumOf waits.finalWait waits.defaultRto formed.formed limits.withinLimits one.submitted one.stepped one.silenced one.cancelled one.configured one.transmitOf one.pollOf times.passedAll times.dueOf times.endOf times.isDue times.isOver times.momentOf times.rttOf head.key head.idAt head.classOf head.headGood head.readHead head.headOf attributes.attributesFrom attributes.later attributes.walkOf attributes.messageOf count.counted figures.averageOf figures.outstandingOf store.inStore store.stored store.copied
 values = record {
   example = refl;
   part = refl;

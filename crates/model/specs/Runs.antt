@@ -18,10 +18,10 @@ abbrev pub plain : Call → Turn
 plain c = with c []
 
 -- What each of them answers, and the world that they leave.
-unfoldable pub answers : ℕ → World → List Turn → List Answer
+abbrev pub answers : ℕ → World → List Turn → List Answer
 answers rows w [] = []
 answers rows w (t ∷ ts) = says rows w (t .made) (t .bytes) .answer ∷ answers rows (says rows w (t .made) (t .bytes) .world) ts
 
-unfoldable pub left : ℕ → World → List Turn → World
-left rows w [] = w
-left rows w (t ∷ ts) = left rows (says rows w (t .made) (t .bytes) .world) ts
+abbrev pub run : ℕ → World → List Turn → World
+run rows w [] = w
+run rows w (t ∷ ts) = run rows (says rows w (t .made) (t .bytes) .world) ts

@@ -17,7 +17,7 @@ use Rattle.stats.specs.declared.Rtt.the-variants.{Absent, Nanos}
 use Rattle.model.specs.World.{World}
 use Rattle.model.specs.Fresh.{fresh}
 use Rattle.model.specs.Parts.{transmissionOf}
-use Rattle.model.specs.Runs.{Turn, with, plain, answers, left}
+use Rattle.model.specs.Runs.{Turn, with, plain, answers, run}
 use Rattle.model.specs.declared.Call.the-variants as call
 use Rattle.model.specs.declared.Answer.{Answer}
 use Rattle.model.specs.declared.Answer.the-variants as answer
@@ -117,10 +117,10 @@ goes = answer.Send (ending 1) (peer 9) 0 20
 pub record Values : Type 0 where
   pub example : answers 32 exampleStart exampleCalls ≡ exampleAnswers
   -- What is handed out: the part of its row, and none of another row, nor of another length, nor once the request is over.
-  pub part : transmissionOf 32 (left 32 exampleStart (take 1 exampleCalls)) 0 20 ≡ request 1
-  pub part-of-another-row : transmissionOf 32 (left 32 exampleStart (take 1 exampleCalls)) 1 20 ≡ []
-  pub part-of-another-length : transmissionOf 32 (left 32 exampleStart (take 1 exampleCalls)) 0 24 ≡ []
-  pub part-afterwards : transmissionOf 32 (left 32 exampleStart exampleCalls) 0 20 ≡ []
+  pub part : transmissionOf 32 (run 32 exampleStart (take 1 exampleCalls)) 0 20 ≡ request 1
+  pub part-of-another-row : transmissionOf 32 (run 32 exampleStart (take 1 exampleCalls)) 1 20 ≡ []
+  pub part-of-another-length : transmissionOf 32 (run 32 exampleStart (take 1 exampleCalls)) 0 24 ≡ []
+  pub part-afterwards : transmissionOf 32 (run 32 exampleStart exampleCalls) 0 20 ≡ []
   -- Settings left unset: sends at 0, 500, 1,500, 3,500, 7,500, 15,500 and 31,500 ms, and the end 8,000 ms after the last of them.
   pub unset-udp :
       answers 1 (start 1 0 false defaultRto) (

@@ -1,6 +1,6 @@
 -- When the start of the rest of a trace is a record, and which.
 use mathlib.Core.Path.{_≡_, refl, sym, ap, _∙_}
-use mathlib.Core.Bool.{Bool, true, false, cond, _&&_}
+use mathlib.Core.Bool.{Bool, true, false, cond, and-eq-true-iff, true≢false}
 use mathlib.Core.List.{List}
 use Prim.Native.Nat.{ℕ, _+_, _≤_, _<_}
 use native.Mathlib.Omega.{arith}
@@ -10,7 +10,7 @@ use lib.Dec.{ltb, leb, eqb}
 use borrow.Author.Tests.{le-leb, lt-leb, eq-eqb, ne-eqb, lt-ltb, le-ltb, leb-true}
 use Rattle.wire.specs.Wire.{be16}
 use Rattle.record.specs.Records.{bodyOf, framed, fromBody, recordOf, shortOf}
-use Rattle.record.proofs.Lengths.{body-lies, apart, and-right, from-fresh, from-whole}
+use Rattle.record.proofs.Lengths.{body-lies, from-fresh, from-whole}
 use Rattle.model.specs.declared.StunAgentBuilder.{StunAgentBuilder}
 use Rattle.model.specs.declared.Call.{Call}
 use Rattle.record.specs.declared.Body.{Body}
@@ -77,18 +77,20 @@ module _ (s : List ℕ) where
       go : (b : Bool) → framed s ≡ b → cond b (fromBody (be16 s 3) (bodyOf (getD s 2 0) (take (be16 s 3) (drop 5 s)))) Broken ≡ r
           → (5 + be16 s 3 ≤ length s) × (fromBody (be16 s 3) (bodyOf (getD s 2 0) (take (be16 s 3) (drop 5 s))) ≡ r)
       go true f h =
-          (leb-true _ _ (and-right (leb (be16 s 3) 4096) _ (and-right (eqb (be16 s 0) 0xa55a) _ (and-right (leb 5 (length s)) _ f))), h)
+          let a = and-eq-true-iff (leb 5 (length s)) _ .0 f in
+          let b = and-eq-true-iff (eqb (be16 s 0) 0xa55a) _ .0 (a .1) in
+          (leb-true _ _ (and-eq-true-iff (leb (be16 s 3) 4096) _ .0 (b .1) .1), h)
       go false f h = absurd (some (sym h))
 
   pub fresh-lies : {x : StunAgentBuilder} {end : ℕ} → recordOf s ≡ Fresh x end → Lies s end end
   fresh-lies {x} {end} e =
-      let w = frame-of (Fresh x end) (λ z. apart (cc)) e in
+      let w = frame-of (Fresh x end) (λ z. true≢false cc) e in
       let q : end ≡ 5 + be16 s 3 = from-fresh (be16 s 3) end (bodyOf (getD s 2 0) (take (be16 s 3) (drop 5 s))) (w .1) in
       record { starts = omega arith; some = omega arith; ends = omega (arith, w .0) }
 
   pub whole-lies : {call : Call} {start end : ℕ} → recordOf s ≡ Whole call start end → Lies s start end
   whole-lies {call} {start} {end} e =
-      let w = frame-of (Whole call start end) (λ z. apart (cc)) e in
+      let w = frame-of (Whole call start end) (λ z. true≢false cc) e in
       let l : length (take (be16 s 3) (drop 5 s)) ≡ be16 s 3 = length-take-le _ _ (rw length-drop (omega (arith, w .0))) in
       let q = from-whole (be16 s 3) (length (take (be16 s 3) (drop 5 s))) start end (body-lies (getD s 2 0) (take (be16 s 3) (drop 5 s))) (w .1) in
       record { starts = omega (arith, q); some = omega (arith, q); ends = omega (arith, q, w .0) }

@@ -1,8 +1,8 @@
 -- The fixed part of a body lies within it.
-use mathlib.Core.Path.{_≡_, refl, sym, _∙_}
-use mathlib.Core.Bool.{Bool, true, false, cond, _&&_, _||_}
+use mathlib.Core.Path.{_≡_, refl}
+use mathlib.Core.Bool.{Bool, true, false, cond, _&&_, _||_, true≢false}
 use mathlib.Core.List.{List}
-use Prim.Native.Nat.{ℕ, _+_, _≤_, _<_}
+use Prim.Native.Nat.{ℕ, _+_, _≤_}
 use native.Mathlib.Omega.{arith}
 use lib.ListN.{length, getD}
 use lib.Dec.{leb, eqb}
@@ -15,7 +15,7 @@ use Rattle.record.specs.declared.Found.the-variants.{Good as Known, Bad 
 use Rattle.model.specs.declared.Call.{Call}
 use Rattle.record.specs.declared.Body.{Body}
 use Rattle.record.specs.declared.Body.the-variants.{Settings, Good, Bad}
-use Rattle.record.specs.declared.Record.the-variants.{Settings as Fresh, Whole, Bad as Broken}
+use Rattle.record.specs.declared.Record.the-variants.{Settings as Fresh, Whole}
 
 pub data Within : ℕ → Body → Type 0 where
   by-settings : {n : ℕ} {b : StunAgentBuilder} → Within n (Settings b)
@@ -76,19 +76,12 @@ module _ (k : ℕ) (s : List ℕ) where
       (if-so (eqb k 11 || eqb k 12) _ _ (λ h. peer-in)
       (if-so (eqb k 13 || eqb k 14) _ Bad (λ h. plain-in) by-none)))))))
 
-pub apart : _≡_ {A = ℕ} 0 1 → ⊥
-apart e = omega arith
-
-pub and-right : (a b : Bool) → a && b ≡ true → b ≡ true
-and-right true b h = h
-and-right false b h = absurd (apart (cc))
-
 pub from-fresh : (n end : ℕ) {b : StunAgentBuilder} (body : Body) → fromBody n body ≡ Fresh b end → end ≡ 5 + n
 from-fresh n end (Settings x) h = cc
-from-fresh n end (Good call start) h = absurd (apart (cc))
-from-fresh n end Bad h = absurd (apart (cc))
+from-fresh n end (Good call start) h = absurd (true≢false cc)
+from-fresh n end Bad h = absurd (true≢false cc)
 
 pub from-whole : (n m start end : ℕ) {call : Call} {b : Body} → Within m b → fromBody n b ≡ Whole call start end → (end ≡ 5 + n) × (start ≤ 5 + m)
-from-whole n m start end by-settings h = absurd (apart (cc))
+from-whole n m start end by-settings h = absurd (true≢false cc)
 from-whole n m start end (by-call {n = m'} {start = start'} w) h = let e : start ≡ start' = cc in (cc, rw e w)
-from-whole n m start end by-none h = absurd (apart (cc))
+from-whole n m start end by-none h = absurd (true≢false cc)

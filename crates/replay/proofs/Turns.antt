@@ -1,12 +1,10 @@
 -- A law for each way through a turn, and what a turn is in the terms of the model.
 use mathlib.Core.Path.{_≡_, refl, sym, ap, _∙_}
 use mathlib.Core.Bool.{Bool, true, false, cond}
-use mathlib.Core.List.{List, []}
+use mathlib.Core.List.{List}
 use Prim.Native.Nat.{ℕ, _-_, _≤_}
 use native.Mathlib.Omega.{arith}
-use lib.Dec.{leb}
 use lib.ListN.{length, take, drop, replicate, length-replicate}
-use borrow.Author.Tests.{le-leb}
 use Rattle.address.specs.declared.Address.{Address}
 use Rattle.waits.specs.Waits.{defaultRto}
 use Rattle.waits.specs.declared.RequestRto.{RequestRto}
@@ -17,10 +15,9 @@ use Rattle.stats.specs.declared.Event.{Event}
 use Rattle.request.specs.declared.StunRequestState.{StunRequestState}
 use Rattle.records.specs.Coding.{size}
 use Rattle.records.specs.Live.{live}
-use Rattle.model.specs.World.{World}
-use Rattle.model.specs.Calls.{Kind, kindOf}
+use Rattle.model.specs.Calls.{kindOf}
 use Rattle.model.specs.Fresh.{buildOf}
-use Rattle.model.specs.Says.{Said, saysOf}
+use Rattle.model.specs.Says.{Said}
 use Rattle.model.specs.declared.StunAgent.{StunAgent}
 use Rattle.model.specs.declared.StunAgentBuilder.{StunAgentBuilder}
 use Rattle.model.specs.declared.Built.{Built}
@@ -29,7 +26,8 @@ use Rattle.model.specs.declared.Call.{Call}
 use Rattle.model.specs.declared.Answer.the-variants.{Ok, Refused}
 use Rattle.model.proofs.Default.{built-empty}
 use Rattle.agent.specs.Ready.{worldWith, worldOf}
-use Rattle.agent.specs.Said.{refusalIn, saidIn, wordsIn}
+use Rattle.agent.specs.Said.{saidIn, wordsIn}
+use Rattle.agent.proofs.Said.{said-whole}
 use Rattle.record.specs.Records.{recordOf}
 use Rattle.record.specs.declared.Record.{Record}
 use Rattle.record.specs.declared.Record.the-variants.{Settings, Whole, Bad as Broken}
@@ -42,11 +40,7 @@ use Rattle.replay.specs.declared.Turn.{Turn}
 use Rattle.entry.specs.Entry.{Performed, answeredIn}
 use Rattle.entry.specs.declared.Stepped.{Stepped}
 
--- On a table with all its rows a call says what the model says, and so does a turn.
-said-whole : (t : List ℕ) (w : World) (k : Kind) (m : List ℕ) → size ≤ length t → saidIn t w k m ≡ saysOf 32 w k m
-unfolding saidIn refusalIn saysOf
-said-whole t w k m h = rw (le-leb size (length t) h)
-
+-- On a table with all its rows a turn is what the model says.
 turn-whole : (t : List ℕ) (st : Stand) (s : List ℕ) → size ≤ length t → (r : Record)
     → turnWith (λ w c m. saidIn t w (kindOf c) m) st s r ≡ turnBy st s r
 turn-whole t st s h Broken = refl

@@ -1,4 +1,4 @@
--- What a request keeps over each change, and that a new request and its first `poll_transmit` together are the request as submitted.
+-- What a request keeps over each change, and the fields of a request as submitted, which is a new one after its first `poll_transmit`.
 use mathlib.Core.Path.{_≡_, refl, ap, _∙_}
 use mathlib.Core.Bool.{Bool, true, false, cond, not, _&&_}
 use Prim.Native.Nat.{ℕ}
@@ -18,6 +18,34 @@ use Rattle.request.specs.declared.SendTimes.the-variants.{Never, Sent}
 use Rattle.request.specs.declared.StunRequestState.{StunRequestState}
 use Rattle.request.specs.declared.StunRequestTransmit.{StunRequestTransmit}
 use Rattle.request.specs.declared.StunRequestTransmit.the-variants.{Rests, Passes, Goes}
+
+pub record Submission (now : ℕ) (id : TransactionId) (integrity : Integrity) (row len : ℕ) (to : Address) (rto : RequestRto) (r : StunRequestState) : Type 0 where
+  pub id-is : r .«transaction_id» ≡ id
+  pub integrity-is : r .«request_integrity» ≡ integrity
+  pub row-is : r .row ≡ row
+  pub len-is : r .len ≡ len
+  pub to-is : r .to ≡ to
+  pub rto-is : r .rto ≡ rto
+  pub not-cancelled : r .«recv_cancelled» ≡ false
+  pub not-silenced : r .«send_cancelled» ≡ false
+  pub count-is : r .«timeout_i» ≡ 0
+  pub times-are : r .«send_times» ≡ Sent now now
+
+pub submission : (now : ℕ) (id : TransactionId) (integrity : Integrity) (row len : ℕ) (to : Address) (rto : RequestRto)
+    → Submission now id integrity row len to rto (submitted now id integrity row len to rto)
+unfolding submitted
+submission now id integrity row len to rto = record {
+  id-is = refl;
+  integrity-is = refl;
+  row-is = refl;
+  len-is = refl;
+  to-is = refl;
+  rto-is = refl;
+  not-cancelled = refl;
+  not-silenced = refl;
+  count-is = refl;
+  times-are = refl;
+}
 
 pub submitted-goes : (t : Transport) (now : ℕ) (id : TransactionId) (integrity : Integrity) (row len : ℕ) (to : Address) (rto : RequestRto)
     → transmitOf t now (newRequest id integrity row len to rto) ≡ Goes (submitted now id integrity row len to rto)

@@ -6,7 +6,7 @@
 --     remove-ascending                     the order, after one is taken out
 use Prim.Native.Nat.{ℕ, zero, suc, _≤_, _<_}
 use mathlib.Core.Path.{_≡_, refl, sym, ap, _∙_}
-use mathlib.Core.Bool.{Bool, true, false, _||_}
+use mathlib.Core.Bool.{Bool, true, false, _||_, true≢false}
 use mathlib.Core.List.{List, [], _∷_, _++_, map}
 use mathlib.Core.Option.{none, some}
 use native.Mathlib.Nat.{not-suc-le-zero}
@@ -23,7 +23,7 @@ neither true false e = (e, refl)
 neither true true e = (e, e)
 
 pub apart : {C : Type 0} → true ≡ false → C
-apart e = absurd (let z : _≡_ {A = ℕ} 0 1 = cc in omega arith)
+apart e = absurd (true≢false e)
 
 pub is-false : (b : Bool) → (b ≡ true → ⊥) → b ≡ false
 is-false true f = absurd (f refl)
@@ -68,10 +68,10 @@ module _ {A : Type 0} where
   length-removed (y ∷ l) (suc i) = omega (arith, length-removed l i)
 
 -- what is read of each stays, where it is the same of the one that is put there
-pub map-set : {A B : Type 0} (f : A → B) (l : List A) (i : ℕ) (x y : A) → getElem? l i ≡ some x → f y ≡ f x → map f (set l i y) ≡ map f l
-map-set f [] i x y e h = refl
-map-set f (z ∷ l) zero x y e h = rw (h ∙ ap f (sym (some-same e)))
-map-set f (z ∷ l) (suc i) x y e h = rw (map-set f l i x y e h)
+pub map-kept : {A B : Type 0} (f : A → B) (l : List A) (i : ℕ) (x y : A) → getElem? l i ≡ some x → f y ≡ f x → map f (set l i y) ≡ map f l
+map-kept f [] i x y e h = refl
+map-kept f (z ∷ l) zero x y e h = rw (h ∙ ap f (sym (some-same e)))
+map-kept f (z ∷ l) (suc i) x y e h = rw (map-kept f l i x y e h)
 
 pub among-insertAt : (j k : ℕ) (l : List ℕ) (i : ℕ) → among j l ≡ false → eqb k j ≡ false → among j (insertAt l i k) ≡ false
 among-insertAt j k l zero e f = rw (f, e)

@@ -25,7 +25,7 @@ use Rattle.requests.specs.Search.{keyOf, keysOf, rowOf, rowsOf, lookupFr
 use Rattle.requests.specs.Formed.{Ascending, Different, AllWithin}
 use Rattle.requests.specs.declared.Found.{Found}
 use Rattle.requests.specs.declared.Found.the-variants.{At, Nothing}
-use Rattle.requests.proofs.Lists.{neither, some-same, none-some, placed-below, placed-split, placed-set, map-set, ascending-tail, ascending-lower, ascending-absent, insert-different, remove-different, remove-ascending}
+use Rattle.requests.proofs.Lists.{neither, some-same, none-some, placed-below, placed-split, placed-set, map-kept, ascending-tail, ascending-lower, ascending-absent, insert-different, remove-different, remove-ascending}
 
 -- one place further on
 abbrev pub onward : Found → Found
@@ -183,10 +183,10 @@ module _ (l : List StunRequestState) (i : ℕ) where
 
   module _ (r q : StunRequestState) (placed : getElem? l i ≡ some r) where
     pub keys-set : keyOf q ≡ keyOf r → keysOf (set l i q) ≡ keysOf l
-    keys-set h = map-set keyOf l i r q placed h
+    keys-set h = map-kept keyOf l i r q placed h
 
     pub rows-set : rowOf q ≡ rowOf r → rowsOf (set l i q) ≡ rowsOf l
-    rows-set h = map-set rowOf l i r q placed h
+    rows-set h = map-kept rowOf l i r q placed h
 
 added-above : (a : ℕ) (r : StunRequestState) (l : List StunRequestState) → a < keyOf r → Ascending (a ∷ keysOf l) → among (keyOf r) (keysOf l) ≡ false
     → Ascending (a ∷ keysOf (added r l))

@@ -13,6 +13,7 @@ use Rattle.address.specs.declared.Address.{Address}
 use Rattle.message.specs.Head.{key}
 use Rattle.message.specs.declared.TransactionId.{TransactionId}
 use Rattle.request.specs.declared.StunRequestState.{StunRequestState}
+use Rattle.request.proofs.Kept.{submission}
 use Rattle.requests.specs.Search.{keyOf, lookup, requestOf, placeOf}
 use Rattle.requests.specs.Scan.{walk}
 use Rattle.requests.specs.Use.{inUse}
@@ -26,22 +27,20 @@ use Rattle.model.specs.Calls.{submits, sends, receives, transmits, reports, Kin
 use Rattle.model.specs.Refusals.{refusalOf}
 use Rattle.model.specs.Says.{Said, numberIn, saysOf}
 use Rattle.model.specs.Parts.{transmissionOf}
-use Rattle.model.specs.Runs.{Turn}
+use Rattle.model.specs.Runs.{Turn, run}
 use Rattle.model.specs.declared.Answer.the-variants as answer
 use Rattle.model.proofs.Classes.{passed-formed}
 use Rattle.model.proofs.Refused.{refused-same}
 use Rattle.model.proofs.State.{state-exactly}
-use Rattle.model.proofs.Below.{submission}
 use Rattle.model.proofs.Answers.{answer-number, sends-out}
-use Rattle.model.proofs.Kept.{says-formed}
+use Rattle.model.proofs.Kept.{says-formed, run-formed}
 use Rattle.model.proofs.Store.{part-unused, RequestAccepted, request-accepted}
 use Rattle.model.proofs.Parts.{transmission-kept}
-use Rattle.runs.specs.Run.{kindIn, said, run, handsOutIt}
+use Rattle.runs.specs.Run.{kindIn, said, handsOutIt}
 use Rattle.runs.specs.Demand.{Start, begins, Submission, submits as submission-of}
 use Rattle.runs.specs.Counts.{exchange}
 use Rattle.runs.specs.Ends.{submitsIt, endBy}
 use Rattle.runs.specs.Bytes.{Delivers, DeliversThrough}
-use Rattle.runs.proofs.Steady.{run-formed}
 use Rattle.runs.proofs.Spared.{scan-said}
 use Rattle.runs.proofs.Present.{found-of}
 use Rattle.runs.proofs.Demand.{unformed-run}

@@ -37,19 +37,19 @@ use Rattle.model.specs.Accepts.{onMessage, isResponse, accepts}
 use Rattle.model.specs.Refusals.{WRONG-CLASS, isRequest, refusalOf}
 use Rattle.model.specs.Effects.{onFound, keeps, changed, taken, answered, reported, wished, yesOrNo, pollAnswer}
 use Rattle.model.specs.Says.{saysOf}
-use Rattle.model.specs.Runs.{Turn, with}
+use Rattle.model.specs.Runs.{Turn, with, run}
 use Rattle.model.specs.declared.Call.the-variants as call
 use Rattle.model.specs.declared.Answer.the-variants as answer
 use Rattle.model.proofs.Refused.{passed-exactly, past-state, refused-same}
 use Rattle.model.proofs.State.{state-exactly}
 use Rattle.model.proofs.Classes.{passed-formed, past-counts, done, change-sends, change-receives, change-transmits, change-reports, change-names, change-meets, change-counts, answer-sends, answer-receives, answer-reports, answer-counts}
+use Rattle.model.proofs.Kept.{run-formed, run-agent}
 use Rattle.model.proofs.Received.{response-found}
 use Rattle.model.proofs.Store.{request-accepted}
-use Rattle.runs.specs.Run.{kindIn, said, run}
+use Rattle.runs.specs.Run.{kindIn, said}
 use Rattle.runs.specs.Demand.{Start, begins, Fit}
 use Rattle.runs.specs.Counts.{Exchange, seen, history, requestsSent, responsesReceived, timedOut, cancelled, total, NoReset}
 use Rattle.runs.specs.Conserved.{Balanced, BelowStop, Conserved}
-use Rattle.runs.proofs.Steady.{run-formed, run-agent}
 use Rattle.runs.proofs.Demand.{fit-formed}
 use Rattle.runs.proofs.Counts.{Amounts, refused-tallied, counters-are}
 
@@ -145,7 +145,7 @@ balanced-from : (rows : ℕ) (ts : List Turn) (w : World)
     → total requestsSent (history rows w ts) + length (w .requests)
     ≡ total responsesReceived (history rows w ts) + total timedOut (history rows w ts) + total cancelled (history rows w ts)
     + length (run rows w ts .requests)
-unfolding history run
+unfolding history
 balanced-from rows [] w = refl
 balanced-from rows (t ∷ ts) w =
     let one = keeps-call rows w (t .bytes) (kindIn t) in

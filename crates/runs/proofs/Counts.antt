@@ -41,7 +41,7 @@ use Rattle.model.specs.Refusals.{BAD-MESSAGE, WRONG-CLASS, isRequest, refusalOf
 use Rattle.model.specs.Effects.{transmitAnswer, pollAnswer, yesOrNo, sentAs, receivedAs, rttAt, transmitEvent, pollEvent, eventBy}
 use Rattle.model.specs.Says.{Said, saysOf}
 use Rattle.model.specs.Fresh.{freshEvent}
-use Rattle.model.specs.Runs.{Turn, answers}
+use Rattle.model.specs.Runs.{Turn, answers, run}
 use Rattle.model.specs.declared.Answer.{Answer}
 use Rattle.model.specs.declared.Answer.the-variants as answer
 use Rattle.model.proofs.Refused.{passed-exactly, refused-same}
@@ -49,13 +49,13 @@ use Rattle.model.proofs.Classes.{passed-formed, done, event-on, answer-sends, a
 use Rattle.model.proofs.Statistics.{counts-event}
 use Rattle.model.proofs.Kept.{says-agent}
 use Rattle.model.proofs.Store.{request-accepted}
-use Rattle.runs.specs.Run.{kindIn, said, run}
+use Rattle.runs.specs.Run.{kindIn, said}
 use Rattle.runs.specs.Demand.{Start, begins}
 use Rattle.runs.specs.Counts.{Exchange, seen, exchange, history, requestsSent, requestsReceived, responsesSent, responsesReceived, indicationsSent, indicationsReceived, timedOut, cancelled, bytesSent, bytesReceived, total, stopped, Counters, resets, NoReset}
 
 -- The answers of a run's history are the run's.
 pub history-answers : (rows : ℕ) (ts : List Turn) (w : World) → map (λ e. e .answer) (history rows w ts) ≡ answers rows w ts
-unfolding history answers
+unfolding history
 history-answers rows [] w = refl
 history-answers rows (t ∷ ts) w = ap (λ (l : List Answer). said rows w t .answer ∷ l) (history-answers rows ts (said rows w t .world))
 
@@ -297,7 +297,7 @@ module _ (get : StunAgentStats → ℕ) (moves : Moves → Move) (part : Amounts
 
   grows : (ts : List Turn) (w : World) (n : ℕ) → w .agent .stats ≡ true → NoReset ts → get (w .stats) ≡ stopped n
       → get (run rows w ts .stats) ≡ stopped (n + total (λ e. part (amountsIn e)) (history rows w ts))
-  unfolding run history
+  unfolding history
   grows [] w n on kept h = rw add-zero h
   grows (t ∷ ts) w n on kept h =
       let c = counts-call rows w (kindIn t) (t .bytes) on (kept .0) in

@@ -19,17 +19,17 @@ use Rattle.waits.specs.declared.RequestRto.{RequestRto}
 use Rattle.waits.specs.declared.Transport.{Transport}
 use Rattle.waits.specs.declared.Transport.the-variants.{Udp, Tcp}
 use Rattle.request.specs.declared.StunRequestState.{StunRequestState}
+use Rattle.request.proofs.Kept.{submission}
 use Rattle.requests.specs.Search.{lookup, requestOf}
 use Rattle.model.specs.World.{World, StateFormed, stateFormed}
 use Rattle.model.specs.Calls.{clockOf}
 use Rattle.model.specs.Refusals.{STATE, numberOf, refusalOf}
 use Rattle.model.specs.Says.{Said}
-use Rattle.model.specs.Runs.{Turn}
-use Rattle.model.proofs.Below as below
+use Rattle.model.specs.Runs.{Turn, run}
 use Rattle.model.proofs.Refused.{bad-state-first, refused-same}
 use Rattle.model.proofs.State.{state-exactly, fresh-formed}
 use Rattle.model.proofs.Store.{RequestAccepted, request-accepted}
-use Rattle.runs.specs.Run.{kindIn, said, run, sends, timeouts}
+use Rattle.runs.specs.Run.{kindIn, said, sends, timeouts}
 use Rattle.runs.specs.Round.{Step, calls, plays, Runs, MoreRounds, no-more, shared, extra}
 use Rattle.runs.specs.Times.{sendTimes, endTime, Rising, More, same, both, added, listOf}
 use Rattle.runs.specs.Demand.{SteadyAt, stepClock, Steady, roundsOf, rounds, Start, begins, Fit, Submission, submits, Life, sendsOf, most, NeverBad, ClosedForm, EachRun}
@@ -71,7 +71,6 @@ steady-front (s ∷ ss) rest m h = go (stepClock s) h (steady-front ss rest)
 
 -- a world that isn't well formed refuses every call
 pub unformed-run : (rows : ℕ) (w : World) (ts : List Turn) → stateFormed rows w ≡ false → run rows w ts ≡ w
-unfolding run
 unformed-run rows w [] e = refl
 unformed-run rows w (t ∷ ts) e =
     let same : said rows w t .world ≡ w =
@@ -144,7 +143,7 @@ module _ (rows x : ℕ) (s : Start) (q : Submission) (pre post : List Step) (bef
 
   new : New (joined .request)
   new =
-      let b = below.submission (q .now) (joined .message .«transaction_id») (joined .message .integrity) (joined .row) (length (q .bytes)) (q .to) (start .agent .rto) in
+      let b = submission (q .now) (joined .message .«transaction_id») (joined .message .integrity) (joined .row) (length (q .bytes)) (q .to) (start .agent .rto) in
       rw (joined .request-is) (record {
         loud = record { first = q .now; times = b .times-are; silent = b .not-silenced; dropped = b .not-cancelled };
         count-is = b .count-is;

@@ -31,12 +31,13 @@ use Rattle.model.specs.World.{World}
 use Rattle.model.specs.Calls.{submits, sends, receives, transmits, reports, Kind, carries, scans, names, meets, counts, onSome}
 use Rattle.model.specs.Accepts.{onMessage, isFound}
 use Rattle.model.specs.Says.{numberIn, saysOf}
-use Rattle.model.specs.Runs.{Turn}
+use Rattle.model.specs.Runs.{Turn, run}
 use Rattle.model.specs.declared.Answer.{Answer}
 use Rattle.model.specs.declared.Answer.the-variants as answer
-use Rattle.runs.specs.Run.{kindIn, said, run, handsOutIt}
+use Rattle.runs.specs.Run.{kindIn, said, handsOutIt}
 use Rattle.runs.specs.Demand.{Start, begins}
-use Rattle.runs.specs.Counts.{onTransmission, Exchange, exchange, history, isYes, one}
+use Rattle.runs.specs.Answers.{onTransmission, isYes}
+use Rattle.runs.specs.Counts.{Exchange, exchange, history, one}
 use Rattle.runs.specs.Ends.{End, by-response, submitsBy, submitsIt, respondsTo, reportEnd, endBy, endOf, Lives, as-it-is, absent, accepted, stays, ends, inTable, SilentUntil, Fate, in-the-table, ended, acceptances, endings}
 use Rattle.runs.specs.Followed.{reaches, wishedOf, followedBy}
 use Rattle.runs.proofs.Followed.{Traced, traced}
@@ -154,7 +155,7 @@ found-none (At i r) e = none-some (sym e)
 found-none Nothing e = refl
 
 pub lives-from : (rows x : ℕ) (ts : List Turn) (w : World) → Lives x (inTable x w) (history rows w ts) (inTable x (run rows w ts))
-unfolding history run
+unfolding history
 lives-from rows x [] w = as-it-is
 lives-from rows x (t ∷ ts) w = go (lookup x (w .requests)) refl (lives-from rows x ts (said rows w t .world))
   where

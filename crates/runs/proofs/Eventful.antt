@@ -11,10 +11,10 @@ use Rattle.store.specs.Rows as store
 use Rattle.model.specs.Parts as parts
 use Rattle.model.specs.World.{World}
 use Rattle.stats.specs.declared.Rtt.the-variants.{Nanos}
-use Rattle.model.specs.Runs.{Turn, with}
+use Rattle.model.specs.Runs.{Turn, with, run}
 use Rattle.model.specs.Worked.{peer, success}
 use Rattle.model.specs.declared.Call.the-variants as call
-use Rattle.runs.specs.Run.{said, run}
+use Rattle.runs.specs.Run.{said}
 use Rattle.runs.specs.Demand.{begins, submits}
 use Rattle.runs.specs.Counts as counts
 use Rattle.runs.specs.Counts.{exchange, history, NoReset}

@@ -44,7 +44,7 @@ use Rattle.model.specs.Accepts.{onMessage, isResponse, accepts}
 use Rattle.model.specs.Refusals.{refusalOf}
 use Rattle.model.specs.Effects.{onFound, keeps, removes, changed, reported, wished, yesOrNo, transmitAnswer, pollAnswer, wishAnswer, meetingAnswer, figureAnswer}
 use Rattle.model.specs.Says.{Said, numberIn, saysOf}
-use Rattle.model.specs.Runs.{Turn}
+use Rattle.model.specs.Runs.{Turn, run}
 use Rattle.model.specs.declared.Answer.{Answer}
 use Rattle.model.specs.declared.Answer.the-variants as answer
 use Rattle.model.proofs.Refused.{refused-same}
@@ -53,12 +53,13 @@ use Rattle.model.proofs.Answers.{answer-number}
 use Rattle.model.proofs.Received.{response-found, response-taken}
 use Rattle.model.proofs.Kept.{says-agent}
 use Rattle.model.proofs.Store.{RequestAccepted, request-accepted}
-use Rattle.runs.specs.Run.{kindIn, said, run, handsOutIt, answersTo, handles}
+use Rattle.runs.specs.Run.{kindIn, said, handsOutIt, answersTo, handles}
 use Rattle.runs.specs.Demand.{Start, begins}
-use Rattle.runs.specs.Counts.{exchange, history, isYes}
+use Rattle.runs.specs.Answers.{isYes}
+use Rattle.runs.specs.Counts.{exchange, history}
 use Rattle.runs.specs.Ends.{End, by-timeout, by-cancel, submitsBy, respondsTo, reportEnd, endBy}
 use Rattle.runs.specs.Followed.{reaches, wishedOf, mapped, followedBy, followed, followedThrough}
-use Rattle.runs.proofs.Spared.{ScanSaid, passed-spares, scan-said, ended-other, not-found, requests-after}
+use Rattle.runs.proofs.Spared.{ScanSaid, passed-spares, scan-said, ended-other, not-found}
 
 -- The calls that hand a request out.
 abbrev pub handedBy : ℕ → Kind → Answer → Bool
@@ -343,7 +344,7 @@ module _ (rows x : ℕ) (w : World) (m : List ℕ) where
           → requestOf (lookup x (saysOf rows w (names id wish) m .world .requests))
           ≡ cond b (mapped (requestOf (lookup x (w .requests))) (wishedOf wish)) (requestOf (lookup x (w .requests)))
       go true b =
-          rw (requests-after rows w (names id wish) m e, change-names rows w m id wish, eqb-true (key id) x b)
+          rw (done rows w (names id wish) m e .requests, change-names rows w m id wish, eqb-true (key id) x b)
           (wish-after (w .agent .transport) (w .requests) wish (lookup x (w .requests)) refl)
       go false b = passed-spares rows x w formed (names id wish) m refl e (rw (b, and-false)) .kept
 
@@ -450,7 +451,7 @@ followed-at rows x tr rto w t s c =
 
 pub follows : (rows x : ℕ) (tr : Transport) (rto : RequestRto) (ts : List Turn) (w : World) → w .agent .transport ≡ tr → w .agent .rto ≡ rto
     → requestOf (lookup x (run rows w ts .requests)) ≡ followedThrough tr rto x (requestOf (lookup x (w .requests))) (history rows w ts)
-unfolding run history
+unfolding history
 follows rows x tr rto [] w t s = refl
 follows rows x tr rto (c ∷ ts) w t s =
     let a = says-agent rows w (kindIn c) (c .bytes) in

@@ -44,20 +44,21 @@ use Rattle.model.specs.World.{World, StateFormed}
 use Rattle.model.specs.Calls.{submits as submits-at, sends as sends-other, receives, transmits, reports, Wish, silence, cancel, configure, query, Kind, carries, scans, names, meets, counts, settingsOf, wishSettings}
 use Rattle.model.specs.Accepts.{onMessage, isResponse, accepts}
 use Rattle.model.specs.Refusals.{STATE, numberOf, refusalOf}
-use Rattle.model.specs.Effects.{onFound, keeps, changed, taken, answered, reported, wished, changeOf, transmitAnswer, pollAnswer}
+use Rattle.model.specs.Effects.{onFound, keeps, changed, taken, answered, reported, wished, transmitAnswer, pollAnswer}
 use Rattle.model.specs.Says.{Said, saysOf}
-use Rattle.model.specs.Runs.{Turn}
+use Rattle.model.specs.Runs.{Turn, run}
 use Rattle.model.specs.declared.Answer.the-variants as answer
 use Rattle.model.proofs.Refused.{refused-same}
+use Rattle.model.proofs.Classes.{scan-passes, done, change-sends, change-receives, change-transmits, change-reports, change-names, change-meets, change-counts}
 use Rattle.model.proofs.Kept.{says-formed, says-agent}
 use Rattle.model.proofs.Store.{request-accepted}
 use Rattle.model.proofs.Default.{accepted-settings}
-use Rattle.runs.specs.Run.{kindIn, said, run, handsOut}
+use Rattle.runs.specs.Run.{kindIn, said, handsOut}
 use Rattle.runs.specs.Round.{transmission, poll, isReport, Transmits, none-left, one-more, Polls, told-to-wait, one-report, Round, round, Step, plays, Runs}
 use Rattle.runs.specs.Demand.{Steady, Start, begins}
 use Rattle.runs.specs.Last.{All, Positive, PositiveIf, NoZeroSet, NoSilentDue, Idle, LastSentence}
-use Rattle.runs.proofs.Steady.{Ok, ok-said, scan-passes, ok-transmits, ok-round, Reaches, reaches}
-use Rattle.runs.proofs.Spared.{requests-after, scan-said}
+use Rattle.runs.proofs.Steady.{Ok, ok-said, ok-transmits, ok-round, Reaches, reaches}
+use Rattle.runs.proofs.Spared.{scan-said}
 use Rattle.runs.proofs.Rests.{all-at, all-removed, all-set, all-added, all-walk, Rested, rested, Staying, staying, ahead, Between, still-ahead}
 use Rattle.runs.proofs.Demand.{fresh-ok, began-formed}
 
@@ -283,24 +284,23 @@ walked-positive tr now r p = rw (settings-transmit r now tr .rto) p
 
 module _ (rows : ℕ) (w : World) (formed : StateFormed rows w) (built : Positive (w .agent .rto)) (h : All PositiveIn (w .requests)) where
   passed-positive : (k : Kind) (b : List ℕ) → refusalOf rows w k b ≡ 0 → PositiveIf (settingsOf k) → All PositiveIn (saysOf rows w k b .world .requests)
-  unfolding changeOf
   passed-positive (carries (submits-at to now)) b e p =
       let a = request-accepted rows w to now b formed e in
       rw (a .requests) (all-added PositiveIn (w .requests) (a .request) (rw (accepted-settings rows w to now b _ a) built) h)
-  passed-positive (carries (sends-other to)) b e p = rw (requests-after rows w (carries (sends-other to)) b e) h
+  passed-positive (carries (sends-other to)) b e p = rw (done rows w (carries (sends-other to)) b e .requests, change-sends rows w b to) h
   passed-positive (carries (receives from clock)) b e p =
-      rw (requests-after rows w (carries (receives from clock)) b e) (received-positive (w .agent .transport) (w .requests) h from (messageOf b))
+      rw (done rows w (carries (receives from clock)) b e .requests, change-receives rows w b from clock) (received-positive (w .agent .transport) (w .requests) h from (messageOf b))
   passed-positive (scans transmits now) b e p =
-      rw (requests-after rows w (scans transmits now) b e)
+      rw (done rows w (scans transmits now) b e .requests, change-transmits rows w b now)
       (all-walk PositiveIn (w .agent .transport) now (walked-positive (w .agent .transport) now) (w .requests) h)
   passed-positive (scans reports now) b e p =
-      rw (requests-after rows w (scans reports now) b e)
+      rw (done rows w (scans reports now) b e .requests, change-reports rows w b now)
       (all-reported PositiveIn (w .agent .transport) (w .requests) (pollAll (w .agent .transport) now (w .requests)) h)
   passed-positive (names id wish) b e p =
-      rw (requests-after rows w (names id wish) b e)
+      rw (done rows w (names id wish) b e .requests, change-names rows w b id wish)
       (wish-positive (w .agent .transport) (w .requests) h id wish p (lookup (key id) (w .requests)) refl)
-  passed-positive (meets a x) b e p = rw (requests-after rows w (meets a x) b e) h
-  passed-positive (counts f) b e p = rw (requests-after rows w (counts f) b e) h
+  passed-positive (meets a x) b e p = rw (done rows w (meets a x) b e .requests, change-meets rows w b a x) h
+  passed-positive (counts f) b e p = rw (done rows w (counts f) b e .requests, change-counts rows w b f) h
 
   said-positive : (t : Turn) → (refusalOf rows w (kindIn t) (t .bytes) ≡ 0 → PositiveIf (settingsOf (kindIn t))) → All PositiveIn (said rows w t .world .requests)
   said-positive t p = go (refusalOf rows w (kindIn t) (t .bytes)) refl
@@ -311,7 +311,6 @@ module _ (rows : ℕ) (w : World) (formed : StateFormed rows w) (built : Positiv
 
 pub positive-run : (rows : ℕ) (w : World) (ts : List Turn) → StateFormed rows w → Positive (w .agent .rto) → NoZeroSet rows w ts → All PositiveIn (w .requests)
     → All PositiveIn (run rows w ts .requests)
-unfolding run
 positive-run rows w [] f p z h = h
 positive-run rows w (t ∷ ts) f p z h =
     let a = says-agent rows w (kindIn t) (t .bytes) in

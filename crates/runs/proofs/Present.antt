@@ -34,31 +34,31 @@ use Rattle.model.specs.World.{World}
 use Rattle.model.specs.Calls.{transmits, reports}
 use Rattle.model.specs.Refusals.{refusalOf}
 use Rattle.model.specs.Effects.{changed, reported, transmitAnswer, pollAnswer}
-use Rattle.model.specs.Runs.{Turn}
+use Rattle.model.specs.Runs.{Turn, run}
 use Rattle.model.specs.declared.Answer.{Answer}
 use Rattle.model.specs.declared.Answer.the-variants as answer
-use Rattle.runs.specs.Run.{kindIn, said, run, handsOut, handsOutIt, timesOutIt, sends, timeouts}
+use Rattle.model.proofs.Classes.{scan-passes}
+use Rattle.runs.specs.Run.{kindIn, said, handsOut, handsOutIt, timesOutIt, sends, timeouts}
 use Rattle.runs.specs.Round.{transmission, poll, isReport, Transmits, none-left, one-more, Polls, told-to-wait, one-report, Round, round, Step, Runs, ends, then-call, then-round}
 use Rattle.runs.specs.Times.{next, sendTimes, endTime, listOf}
 use Rattle.runs.specs.Demand.{Steady, rounds, LeftAlone}
-use Rattle.runs.proofs.Steady.{Ok, ok-said, next-ok, scan-passes, transmits-world, polls-world, round-world, ok-transmits, ok-round}
+use Rattle.runs.proofs.Steady.{Ok, ok-said, next-ok, transmits-world, polls-world, round-world, ok-transmits, ok-round}
 use Rattle.runs.proofs.Spared.{others-spare, scan-said, ended-other, absent-run}
 use Rattle.runs.proofs.One.{Loud, stepped-facts, sendsFrom, endFrom, loud-goes, sends-step, end-step, sends-stay, sends-over, end-over, end-stay, timed-over, waits-over, not-cancelled}
 
 -- ---- runs in two parts
 
 pub sends-append : (rows x : ℕ) (w : World) (rs bs : List Turn) → sends rows x w (rs ++ bs) ≡ sends rows x w rs ++ sends rows x (run rows w rs) bs
-unfolding sends run
+unfolding sends
 sends-append rows x w [] bs = refl
 sends-append rows x w (t ∷ rs) bs = rw (sends-append rows x (said rows w t .world) rs bs, append-assoc)
 
 pub timeouts-append : (rows x : ℕ) (w : World) (rs bs : List Turn) → timeouts rows x w (rs ++ bs) ≡ timeouts rows x w rs ++ timeouts rows x (run rows w rs) bs
-unfolding timeouts run
+unfolding timeouts
 timeouts-append rows x w [] bs = refl
 timeouts-append rows x w (t ∷ rs) bs = rw (timeouts-append rows x (said rows w t .world) rs bs, append-assoc)
 
 alone-rest : (rows x : ℕ) (w : World) (rs bs : List Turn) → LeftAlone rows x w (rs ++ bs) → LeftAlone rows x (run rows w rs) bs
-unfolding run
 alone-rest rows x w [] bs h = h
 alone-rest rows x w (t ∷ rs) bs h = alone-rest rows x (said rows w t .world) rs bs (h .1)
 

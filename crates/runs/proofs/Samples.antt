@@ -35,6 +35,7 @@ use Rattle.request.specs.Request.{stepped, silenced, cancelled, configured}
 use Rattle.request.specs.declared.SendTimes.the-variants.{Sent}
 use Rattle.request.proofs.Steps.{step-again}
 use Rattle.request.proofs.Answers.{after-exactly}
+use Rattle.request.proofs.Kept.{submission}
 use Rattle.request.specs.declared.StunRequestState.{StunRequestState}
 use Rattle.requests.specs.Search.{lookup, requestOf}
 use Rattle.requests.specs.Scan.{walk, pollAll}
@@ -51,23 +52,23 @@ use Rattle.model.specs.Accepts.{onMessage, isResponse, accepts}
 use Rattle.model.specs.Refusals.{refusalOf}
 use Rattle.model.specs.Effects.{yesOrNo, sentAs, receivedAs, rttAt, transmitEvent, pollEvent, eventBy}
 use Rattle.model.specs.Says.{numberIn, saysOf}
-use Rattle.model.specs.Runs.{Turn, with}
+use Rattle.model.specs.Runs.{Turn, with, run}
 use Rattle.model.specs.declared.Answer.{Answer}
 use Rattle.model.specs.declared.Call.the-variants as call
 use Rattle.model.specs.declared.Answer.the-variants as answer
 use Rattle.model.proofs.Refused.{refused-same}
 use Rattle.model.proofs.Classes.{done, event-on, answer-receives}
-use Rattle.model.proofs.Below.{submission}
 use Rattle.model.proofs.Store.{request-accepted}
 use Rattle.model.proofs.Statistics.{counts-event}
-use Rattle.model.proofs.Kept.{says-agent}
-use Rattle.runs.specs.Run.{kindIn, said, run}
+use Rattle.model.proofs.Kept.{says-agent, run-agent}
+use Rattle.runs.specs.Run.{kindIn, said}
 use Rattle.runs.specs.Demand.{Start, begins, Submission, submits as submits-of}
-use Rattle.runs.specs.Counts.{Exchange, seen, exchange, history, isYes, one, resets, NoReset}
+use Rattle.runs.specs.Answers.{isYes}
+use Rattle.runs.specs.Counts.{Exchange, seen, exchange, history, one, resets, NoReset}
 use Rattle.runs.specs.Ends.{by-response, submitsBy, submitsIt, respondsTo, endBy, Unended}
 use Rattle.runs.specs.Followed.{reaches, wishedOf, followedBy, followed, followedThrough}
 use Rattle.runs.specs.Samples.{Left, leftBy, measured, sampleOf, listed, samplesFrom, samples, sumOf, leastOf, greatestOf, RoundTrips, Accounts, stepsBy, stepsThrough}
-use Rattle.runs.proofs.Steady.{run-append, run-agent}
+use Rattle.runs.proofs.Steady.{run-append}
 use Rattle.runs.proofs.Counts.{begins-zeroed, counters-are}
 use Rattle.runs.proofs.Followed.{stands-at, traced, followed-at, follows, follows-fresh}
 use Rattle.runs.proofs.Ends.{submits-other}
@@ -206,7 +207,7 @@ module _ (rows : ℕ) (tr : Transport) (rto : RequestRto) where
   trips-from : (ts : List Turn) (w : World) (left : Left) (l : List ℕ) → ((x : ℕ) → requestOf (lookup x (w .requests)) ≡ left x)
       → w .agent .transport ≡ tr → w .agent .rto ≡ rto → w .agent .stats ≡ true → NoReset ts → RoundTrips l (w .stats)
       → RoundTrips (l ++ samplesFrom tr rto left (history rows w ts)) (run rows w ts .stats)
-  unfolding history run
+  unfolding history
   trips-from [] w left l agrees t s on kept h = rw (append-nil l) h
   trips-from (c ∷ ts) w left l agrees t s on kept h =
       let a = says-agent rows w (kindIn c) (c .bytes) in
@@ -371,7 +372,6 @@ module _ (rows x : ℕ) (s : Start) (before : List Turn) (q : Submission) (later
         (timed-through tr rto x l (q .now) 0 (a .request) p t u through)
 
     left-is : (y : ℕ) → left y ≡ requestOf (lookup y (now-at .requests))
-    unfolding run
     left-is y =
         sym (follows-fresh rows y s (before ++ (submits-of q ∷ later)))
         ∙ ap (λ (w : World). requestOf (lookup y (w .requests))) (run-append rows (begins s) before (submits-of q ∷ later))

@@ -5,7 +5,6 @@
 --     absent-run                    any run, where x isn't outstanding
 --     Silent                        such a run neither sends x nor reports it, nor is x outstanding after it
 --     ended-other                   a poll that reports another request
---     requests-after                the requests after a call that isn't refused
 --     scan-said                     a transmission or a poll that isn't refused
 use Prim.Native.Nat.{ℕ, zero, suc, _+_}
 use mathlib.Core.Path.{_≡_, refl, sym, ap, _∙_}
@@ -27,7 +26,7 @@ use Rattle.request.specs.Kept.{SameRequest}
 use Rattle.request.specs.declared.StunRequestState.{StunRequestState}
 use Rattle.request.specs.declared.StunRequestPollRet.{StunRequestPollRet}
 use Rattle.request.specs.declared.StunRequestPollRet.the-variants as poll-ret
-use Rattle.request.proofs.Kept.{same-silenced, same-cancelled, same-configured}
+use Rattle.request.proofs.Kept.{submission, same-silenced, same-cancelled, same-configured}
 use Rattle.requests.specs.Search.{keyOf, lookup, requestOf}
 use Rattle.requests.specs.Scan.{hour, walk, pollAll}
 use Rattle.requests.specs.declared.Found.{Found}
@@ -44,15 +43,15 @@ use Rattle.model.specs.World.{World, StateFormed}
 use Rattle.model.specs.Calls.{submits, sends as sends-other, receives, Scan, transmits, reports, Wish, silence, cancel, configure, query, Kind, carries, scans, names, meets, counts}
 use Rattle.model.specs.Accepts.{onMessage, isResponse, accepts}
 use Rattle.model.specs.Refusals.{refusalOf}
-use Rattle.model.specs.Effects.{onFound, keeps, removes, changed, taken, answered, reported, wished, changeOf, transmitAnswer, pollAnswer, scanAnswer, scanChange, answerOf, after}
+use Rattle.model.specs.Effects.{onFound, keeps, removes, changed, taken, answered, reported, wished, transmitAnswer, pollAnswer, scanAnswer, scanChange}
 use Rattle.model.specs.Says.{saysOf}
-use Rattle.model.specs.Runs.{Turn}
+use Rattle.model.specs.Runs.{Turn, run}
 use Rattle.model.specs.declared.Answer.the-variants as answer
-use Rattle.model.proofs.Below.{submission}
-use Rattle.model.proofs.Refused.{refused-same, passed-does}
+use Rattle.model.proofs.Refused.{refused-same}
+use Rattle.model.proofs.Classes.{done, change-sends, change-receives, change-transmits, change-reports, change-names, change-meets, change-counts, answer-transmits, answer-reports}
 use Rattle.model.proofs.Kept.{says-formed}
 use Rattle.model.proofs.Store.{request-accepted}
-use Rattle.runs.specs.Run.{kindIn, said, run, handsOutIt, timesOutIt, noted, sendsBy, timeoutsBy, sends, timeouts, answersTo, alters, handles, handledBy}
+use Rattle.runs.specs.Run.{kindIn, said, handsOutIt, timesOutIt, noted, sendsBy, timeoutsBy, sends, timeouts, answersTo, alters, handles, handledBy}
 use Rattle.runs.specs.Round.{isScan}
 use Rattle.runs.specs.Demand.{LeftAlone}
 
@@ -87,12 +86,6 @@ refused-spares rows x w k b n e = record {
   untimed = rw (refused-same rows w k b n e) (refused-untimed x (suc n) k);
 }
 
--- the requests after a call that isn't refused
-pub requests-after : (rows : ℕ) (w : World) (k : Kind) (b : List ℕ) → refusalOf rows w k b ≡ 0
-    → saysOf rows w k b .world .requests ≡ changed (w .agent .transport) (changeOf rows w k b) (w .requests)
-unfolding after
-requests-after rows w k b e = rw (passed-does rows w k b e)
-
 -- a response to another request, or one that isn't accepted
 received-keeps : (x : ℕ) (t : Transport) (l : List StunRequestState) (from : Address) (p : Parsed) → onMessage p false (answersTo x l from) ≡ false
     → requestOf (lookup x (changed t (onMessage p keeps (answered l from)) l)) ≡ requestOf (lookup x l)
@@ -125,7 +118,6 @@ wish-keeps x t l id wish (At i r) e h = go wish h
 
 module _ (rows x : ℕ) (w : World) (formed : StateFormed rows w) where
   pub passed-spares : (k : Kind) (b : List ℕ) → isScan k ≡ false → refusalOf rows w k b ≡ 0 → handles x w k b ≡ false → Spared rows x w k b
-  unfolding changeOf
   passed-spares (carries (submits to now)) b n e h =
       let a = request-accepted rows w to now b formed e in
       let y = a .message in
@@ -138,20 +130,20 @@ module _ (rows x : ℕ) (w : World) (formed : StateFormed rows w) where
         untimed = refl;
       }
   passed-spares (carries (sends-other to)) b n e h =
-      record { kept = rw (requests-after rows w (carries (sends-other to)) b e); unsent = refl; untimed = refl }
+      record { kept = rw (done rows w (carries (sends-other to)) b e .requests, change-sends rows w b to); unsent = refl; untimed = refl }
   passed-spares (carries (receives from clock)) b n e h = record {
-    kept = rw (requests-after rows w (carries (receives from clock)) b e) (received-keeps x (w .agent .transport) (w .requests) from (messageOf b) h);
+    kept = rw (done rows w (carries (receives from clock)) b e .requests, change-receives rows w b from clock) (received-keeps x (w .agent .transport) (w .requests) from (messageOf b) h);
     unsent = refl;
     untimed = refl;
   }
   passed-spares (scans s now) b n e h = apart n
   passed-spares (names id wish) b n e h = record {
-    kept = rw (requests-after rows w (names id wish) b e) (wish-keeps x (w .agent .transport) (w .requests) id wish (lookup (key id) (w .requests)) refl h);
+    kept = rw (done rows w (names id wish) b e .requests, change-names rows w b id wish) (wish-keeps x (w .agent .transport) (w .requests) id wish (lookup (key id) (w .requests)) refl h);
     unsent = refl;
     untimed = refl;
   }
-  passed-spares (meets a m) b n e h = record { kept = rw (requests-after rows w (meets a m) b e); unsent = refl; untimed = refl }
-  passed-spares (counts f) b n e h = record { kept = rw (requests-after rows w (counts f) b e); unsent = refl; untimed = refl }
+  passed-spares (meets a m) b n e h = record { kept = rw (done rows w (meets a m) b e .requests, change-meets rows w b a m); unsent = refl; untimed = refl }
+  passed-spares (counts f) b n e h = record { kept = rw (done rows w (counts f) b e .requests, change-counts rows w b f); unsent = refl; untimed = refl }
 
   pub others-spare : (t : Turn) → isScan (kindIn t) ≡ false → handledBy rows x w t ≡ false → Spared rows x w (kindIn t) (t .bytes)
   others-spare t n h = go (refusalOf rows w (kindIn t) (t .bytes)) refl
@@ -166,8 +158,12 @@ pub record ScanSaid (rows : ℕ) (w : World) (s : Scan) (now : ℕ) (b : List �
   pub requests : saysOf rows w (scans s now) b .world .requests ≡ changed (w .agent .transport) (scanChange w s now) (w .requests)
 
 pub scan-said : (rows : ℕ) (w : World) (s : Scan) (now : ℕ) (b : List ℕ) → refusalOf rows w (scans s now) b ≡ 0 → ScanSaid rows w s now b
-unfolding answerOf changeOf
-scan-said rows w s now b e = record { answers = rw (passed-does rows w (scans s now) b e); requests = requests-after rows w (scans s now) b e }
+scan-said rows w transmits now b e =
+    let d = done rows w (scans transmits now) b e in
+    record { answers = d .answer ∙ answer-transmits rows w b now; requests = rw (← change-transmits rows w b now) (d .requests) }
+scan-said rows w reports now b e =
+    let d = done rows w (scans reports now) b e in
+    record { answers = d .answer ∙ answer-reports rows w b now; requests = rw (← change-reports rows w b now) (d .requests) }
 
 -- ---- x isn't outstanding
 
@@ -224,7 +220,7 @@ pub record Silent (rows x : ℕ) (w : World) (ts : List Turn) : Type 0 where
   pub gone : requestOf (lookup x (run rows w ts .requests)) ≡ none
 
 pub absent-run : (rows x : ℕ) (w : World) (ts : List Turn) → StateFormed rows w → LeftAlone rows x w ts → requestOf (lookup x (w .requests)) ≡ none → Silent rows x w ts
-unfolding sends timeouts run
+unfolding sends timeouts
 absent-run rows x w [] f h g = record { unsent = refl; untimed = refl; gone = g }
 absent-run rows x w (t ∷ ts) f h g =
     let s = absent-kind rows x w g f t (h .0) (kindIn t) refl in

@@ -1,14 +1,12 @@
 -- Worlds of a run whose clocks are steady: well formed, as the agent was built, with a mark that the clocks to come don't pass.
 --     Ok, ok-said, next-ok      such a world, and the one after a call
---     scan-passes               no transmission and no poll of a round is refused
 --     run-append                a run in two parts
---     run-formed, run-agent     what every run keeps, the model's laws
 --     ok-transmits, ok-round, transmits-world, polls-world, round-world      the world after a round or a part of it
 --     Reaches, reaches          the world after the first steps of a run, and the clocks to come
 --     never-append, never-call, never-bad      from such a world no call is refused by 1 or 3
 use Prim.Native.Nat.{ℕ, zero, suc, _^_, _≤_}
 use mathlib.Core.Path.{_≡_, refl, sym, _∙_}
-use mathlib.Core.Bool.{true, false, not, _||_}
+use mathlib.Core.Bool.{false, _||_}
 use mathlib.Core.List.{List, [], _∷_, _++_}
 use mathlib.Core.Option.{Option, none, some}
 use lib.Dec.{ltb}
@@ -17,18 +15,16 @@ use native.Mathlib.Omega.{arith}
 use Rattle.waits.specs.declared.RequestRto.{RequestRto}
 use Rattle.waits.specs.declared.Transport.{Transport}
 use Rattle.requests.proofs.Lists.{apart}
-use Rattle.model.specs.World.{World, StateFormed, stateFormed}
-use Rattle.model.specs.Calls.{Scan, Kind, scans, clockOf, onSome}
-use Rattle.model.specs.Accepts.{newPeer}
-use Rattle.model.specs.Refusals.{Refusal, STATE, SETTINGS, CLOCK, TOO-LONG, BAD-MESSAGE, WRONG-CLASS, IN-PROGRESS, TABLE-FULL, NO-REQUEST, PEERS-FULL, NO-STATS, COUNTS, numberOf, holds, refusalOf}
-use Rattle.model.specs.Effects.{markAfter, after}
+use Rattle.model.specs.World.{World, StateFormed}
+use Rattle.model.specs.Calls.{Kind, clockOf, onSome}
+use Rattle.model.specs.Refusals.{CLOCK, numberOf, refusalOf}
+use Rattle.model.specs.Effects.{markAfter}
 use Rattle.model.specs.Says.{saysOf}
-use Rattle.model.specs.Runs.{Turn, left}
-use Rattle.model.proofs.Refused.{refused-exactly, passed-exactly, refused-same, passed-does}
-use Rattle.model.proofs.State.{state-exactly}
-use Rattle.model.proofs.Kept as kept
+use Rattle.model.specs.Runs.{Turn, run}
+use Rattle.model.proofs.Refused.{refused-exactly, refused-same}
+use Rattle.model.proofs.Classes.{never-state, done}
 use Rattle.model.proofs.Kept.{says-formed, says-agent}
-use Rattle.runs.specs.Run.{kindIn, said, run}
+use Rattle.runs.specs.Run.{kindIn, said}
 use Rattle.runs.specs.Round.{transmission, poll, Transmits, none-left, one-more, Polls, told-to-wait, one-report, Round, round, Step, Runs, ends, then-call, then-round}
 use Rattle.runs.specs.Demand.{SteadyAt, Steady, NeverBad}
 
@@ -44,32 +40,12 @@ clock-fine : (mark : ℕ) (c : Option ℕ) (m : ℕ) → mark ≤ m → SteadyAt
 clock-fine mark none m l h = refl
 clock-fine mark (some t) m l h = rw (le-ltb (2 ^ 60) t (h .1), le-ltb t mark (omega (arith, h .0)))
 
-pub scan-passes : (rows : ℕ) (w : World) (s : Scan) (now : ℕ) (m : List ℕ) → StateFormed rows w → w .agent .mark ≤ now → now ≤ 2 ^ 60
-    → refusalOf rows w (scans s now) m ≡ 0
-unfolding newPeer
-scan-passes rows w s now m f l h = passed-exactly rows w (scans s now) m .1 go
-  where
-    go : (r : Refusal) → holds rows w (scans s now) m r ≡ false
-    go STATE = rw (state-exactly rows w .1 f)
-    go SETTINGS = refl
-    go CLOCK = clock-fine (w .agent .mark) (some now) now l (omega arith, h, tt)
-    go TOO-LONG = refl
-    go BAD-MESSAGE = refl
-    go WRONG-CLASS = refl
-    go IN-PROGRESS = refl
-    go TABLE-FULL = refl
-    go NO-REQUEST = refl
-    go PEERS-FULL = refl
-    go NO-STATS = refl
-    go COUNTS = refl
-
 module _ (rows : ℕ) (tr : Transport) (set : RequestRto) where
   mark-said : (w : World) (k : Kind) (b : List ℕ) (u : ℕ) → w .agent .mark ≤ u → markAfter w k ≤ u → saysOf rows w k b .world .agent .mark ≤ u
-  unfolding after
   mark-said w k b u l h = go (refusalOf rows w k b) refl
     where
       go : (n : ℕ) → refusalOf rows w k b ≡ n → saysOf rows w k b .world .agent .mark ≤ u
-      go zero e = rw (passed-does rows w k b e) h
+      go zero e = rw (done rows w k b e .agent) h
       go (suc n) e = rw (refused-same rows w k b n e) l
 
   pub ok-said : (m u : ℕ) (w : World) (k : Kind) (b : List ℕ) → Ok rows tr set m w → m ≤ u → markAfter w k ≤ u → Ok rows tr set u (saysOf rows w k b .world)
@@ -97,25 +73,14 @@ module _ (rows : ℕ) (tr : Transport) (set : RequestRto) where
 
 -- a run in two parts
 pub run-append : (rows : ℕ) (w : World) (rs bs : List Turn) → run rows w (rs ++ bs) ≡ run rows (run rows w rs) bs
-unfolding run
 run-append rows w [] bs = refl
 run-append rows w (t ∷ rs) bs = run-append rows (said rows w t .world) rs bs
 
-pub run-formed : (rows : ℕ) (ts : List Turn) (w : World) → StateFormed rows w → StateFormed rows (run rows w ts)
-unfolding run left
-run-formed rows ts w f = kept.run-formed rows ts w f
-
-pub run-agent : (rows : ℕ) (ts : List Turn) (w : World) → kept.SameBuild (w .agent) (run rows w ts .agent)
-unfolding run left
-run-agent rows ts w = kept.run-agent rows ts w
-
 pub transmits-world : {rows now : ℕ} {w v : World} {ts : List Turn} → Transmits rows now w ts v → run rows w ts ≡ v
-unfolding run
 transmits-world (none-left e) = refl
 transmits-world (one-more e d) = transmits-world d
 
 pub polls-world : {rows now clock : ℕ} {w v : World} {ts : List Turn} → Polls rows now w ts v clock → run rows w ts ≡ v
-unfolding run
 polls-world (told-to-wait e) = refl
 polls-world (one-report e d) = polls-world d
 
@@ -143,7 +108,6 @@ pub record Reaches (rows : ℕ) (tr : Transport) (set : RequestRto) (rest : List
 
 pub reaches : {rows : ℕ} {tr : Transport} {set : RequestRto} {w : World} {ss : List Step} {ts : List Turn} → Runs rows w ss ts
     → (rest : List Step) (m : ℕ) → Ok rows tr set m w → Steady m (ss ++ rest) → Reaches rows tr set rest (run rows w ts)
-unfolding run
 reaches ends rest m o h = record { floor = m; ok = o; steady = h }
 reaches {rows} {tr} {set} (then-call {w} {t} {ss} n d) rest m o h =
     let z = next-ok rows tr set m t w (λ u. Steady u (ss ++ rest)) o h in
@@ -154,22 +118,16 @@ reaches {rows} {tr} {set} (then-round {w} {u} {now} {rs = rs} {ts = ts} a d) res
 -- no call is refused by 1 or 3
 
 pub never-append : (rows : ℕ) (w : World) (rs bs : List Turn) → NeverBad rows w rs → NeverBad rows (run rows w rs) bs → NeverBad rows w (rs ++ bs)
-unfolding run
 never-append rows w [] bs a b = b
 never-append rows w (t ∷ rs) bs a b = (a .0, a .1, never-append rows (said rows w t .world) rs bs (a .2) b)
 
 module _ (rows : ℕ) (tr : Transport) (set : RequestRto) (m : ℕ) (w : World) (t : Turn) (o : Ok rows tr set m w) where
-  not-state : refusalOf rows w (kindIn t) (t .bytes) ≡ numberOf STATE → ⊥
-  not-state e =
-      let z : not (stateFormed rows w) ≡ true = refused-exactly rows w (kindIn t) (t .bytes) STATE .0 e .0 in
-      apart (sym (rw (state-exactly rows w .1 (o .formed)) at z))
-
   not-clock : SteadyAt (clockOf (kindIn t)) m (λ u. Unit {0}) → refusalOf rows w (kindIn t) (t .bytes) ≡ numberOf CLOCK → ⊥
   not-clock h e =
       apart (sym (refused-exactly rows w (kindIn t) (t .bytes) CLOCK .0 e .0) ∙ clock-fine (w .agent .mark) (clockOf (kindIn t)) m (o .mark) h)
 
   pub never-call : (ts : List Turn) → SteadyAt (clockOf (kindIn t)) m (λ u. Unit {0}) → NeverBad rows (said rows w t .world) ts → NeverBad rows w (t ∷ ts)
-  never-call ts h n = (not-state, not-clock h, n)
+  never-call ts h n = (never-state rows w (kindIn t) (t .bytes) (o .formed), not-clock h, n)
 
 forget : (c : Option ℕ) (m : ℕ) (K : ℕ → Type 0) → SteadyAt c m K → SteadyAt c m (λ u. Unit {0})
 forget none m K h = tt

@@ -20,7 +20,7 @@ use Rattle.model.specs.Refusals.{isRequest}
 use Rattle.model.specs.Says.{numberIn}
 use Rattle.model.specs.Runs.{Turn}
 use Rattle.model.specs.declared.Answer.{Answer}
-use Rattle.model.specs.declared.Answer.the-variants as answer
+use Rattle.runs.specs.Answers.{isYes, onTransmission, timedOutIn, cancelledIn}
 use Rattle.runs.specs.Run.{kindIn, said, handsOut}
 
 -- ---- what the host saw of a run
@@ -42,75 +42,11 @@ unfoldable pub history : ℕ → World → List Turn → List Exchange
 history rows w [] = []
 history rows w (t ∷ ts) = exchange rows w t ∷ history rows (said rows w t .world) ts
 
--- ---- answers
+-- ---- messages sent and received
 
-abbrev pub isYes : Answer → Bool
-isYes (answer.Refused n) = false
-isYes answer.Ok = false
-isYes answer.Yes = true
-isYes answer.No = false
-isYes answer.None = false
-isYes (answer.Send id to row len) = false
-isYes (answer.Wait clock) = false
-isYes (answer.TimedOut id) = false
-isYes (answer.Cancelled id) = false
-isYes (answer.Stats s) = false
-isYes (answer.Average a) = false
-isYes (answer.Outstanding n) = false
-isYes (answer.Request to integrity) = false
-
--- A choice by the transmission that an answer hands out: identifier, row and length.
-abbrev pub onTransmission : {B : Type 0} → Answer → B → (TransactionId → ℕ → ℕ → B) → B
-onTransmission (answer.Refused n) b f = b
-onTransmission answer.Ok b f = b
-onTransmission answer.Yes b f = b
-onTransmission answer.No b f = b
-onTransmission answer.None b f = b
-onTransmission (answer.Send id to row len) b f = f id row len
-onTransmission (answer.Wait clock) b f = b
-onTransmission (answer.TimedOut id) b f = b
-onTransmission (answer.Cancelled id) b f = b
-onTransmission (answer.Stats s) b f = b
-onTransmission (answer.Average a) b f = b
-onTransmission (answer.Outstanding n) b f = b
-onTransmission (answer.Request to integrity) b f = b
-
+-- The length that an answer hands out.
 abbrev pub lengthOut : Answer → ℕ
 lengthOut a = onTransmission a 0 (λ id row len. len)
-
--- The request that is reported timed out.
-abbrev pub timedOutIn : Answer → Option TransactionId
-timedOutIn (answer.Refused n) = none
-timedOutIn answer.Ok = none
-timedOutIn answer.Yes = none
-timedOutIn answer.No = none
-timedOutIn answer.None = none
-timedOutIn (answer.Send id to row len) = none
-timedOutIn (answer.Wait clock) = none
-timedOutIn (answer.TimedOut id) = some id
-timedOutIn (answer.Cancelled id) = none
-timedOutIn (answer.Stats s) = none
-timedOutIn (answer.Average a) = none
-timedOutIn (answer.Outstanding n) = none
-timedOutIn (answer.Request to integrity) = none
-
--- The request that is reported cancelled.
-abbrev pub cancelledIn : Answer → Option TransactionId
-cancelledIn (answer.Refused n) = none
-cancelledIn answer.Ok = none
-cancelledIn answer.Yes = none
-cancelledIn answer.No = none
-cancelledIn answer.None = none
-cancelledIn (answer.Send id to row len) = none
-cancelledIn (answer.Wait clock) = none
-cancelledIn (answer.TimedOut id) = none
-cancelledIn (answer.Cancelled id) = some id
-cancelledIn (answer.Stats s) = none
-cancelledIn (answer.Average a) = none
-cancelledIn (answer.Outstanding n) = none
-cancelledIn (answer.Request to integrity) = none
-
--- ---- messages sent and received
 
 -- The call sent its message: `send_request` that answered with the first transmission, `send` that wasn't refused.
 abbrev pub passageSent : Passage → Answer → Bool

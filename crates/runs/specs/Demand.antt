@@ -19,9 +19,9 @@ use Rattle.model.specs.World.{World}
 use Rattle.model.specs.Calls.{clockOf}
 use Rattle.model.specs.Refusals.{STATE, CLOCK, numberOf, refusalOf}
 use Rattle.model.specs.Fresh.{fresh}
-use Rattle.model.specs.Runs.{Turn, with}
+use Rattle.model.specs.Runs.{Turn, with, run}
 use Rattle.model.specs.declared.Call.the-variants as call
-use Rattle.runs.specs.Run.{kindIn, said, run, sends, timeouts, handledBy}
+use Rattle.runs.specs.Run.{kindIn, said, sends, timeouts, handledBy}
 use Rattle.runs.specs.Round.{Step, calls, plays, Runs}
 use Rattle.runs.specs.Times.{sendTimes, endTime, Gaps, listOf}
 

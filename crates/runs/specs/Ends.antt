@@ -16,7 +16,8 @@ use Rattle.model.specs.Accepts.{onMessage, isResponse, isFound}
 use Rattle.model.specs.declared.Answer.{Answer}
 use Rattle.requests.specs.Search.{lookup}
 use Rattle.runs.specs.Run.{handsOutIt}
-use Rattle.runs.specs.Counts.{Exchange, isYes, timedOutIn, cancelledIn, one, total}
+use Rattle.runs.specs.Answers.{isYes, timedOutIn, cancelledIn}
+use Rattle.runs.specs.Counts.{Exchange, one, total}
 
 -- ---- one call
 

@@ -11,11 +11,10 @@ use Rattle.stats.specs.Count.{zeroed}
 use Rattle.stats.specs.declared.StunAgentStats.{StunAgentStats}
 use Rattle.stats.specs.declared.Rtt.the-variants.{Nanos}
 use Rattle.model.specs.Parts.{transmissionOf}
-use Rattle.model.specs.Runs.{Turn, with, plain, answers}
+use Rattle.model.specs.Runs.{Turn, with, plain, answers, run}
 use Rattle.model.specs.Worked.{peer, ending, message, request, indication, success, settings}
 use Rattle.model.specs.declared.Call.the-variants as call
 use Rattle.model.specs.declared.Answer.the-variants as answer
-use Rattle.runs.specs.Run.{run}
 use Rattle.runs.specs.Demand.{Start, begins, Submission, submits}
 use Rattle.runs.specs.Counts.{Exchange, history, requestsSent, requestsReceived, responsesSent, responsesReceived, indicationsSent, indicationsReceived, timedOut, cancelled, bytesSent, bytesReceived, total}
 use Rattle.runs.specs.Ends.{endings, acceptances}

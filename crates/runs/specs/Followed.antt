@@ -18,7 +18,8 @@ use Rattle.model.specs.Accepts.{onMessage}
 use Rattle.model.specs.Says.{numberIn}
 use Rattle.model.specs.declared.Answer.{Answer}
 use Rattle.model.specs.declared.Answer.the-variants as answer
-use Rattle.runs.specs.Counts.{Exchange, isYes, onTransmission}
+use Rattle.runs.specs.Answers.{isYes, onTransmission}
+use Rattle.runs.specs.Counts.{Exchange}
 use Rattle.runs.specs.Ends.{respondsTo, reportEnd}
 
 -- `poll_transmit` "goes up the identifiers and stops at the first request that goes out": it reached x if none went out, or one that isn't

@@ -1,5 +1,6 @@
 -- Runs, rounds and demand 3; what the counters, the ends of requests and the bytes handed out mean over a run. Each file cites only those
 -- above it.
+pub mod Answers
 pub mod Run
 pub mod Round
 pub mod Times

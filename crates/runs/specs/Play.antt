@@ -9,9 +9,8 @@ use Rattle.request.specs.declared.SendTimes.{SendTimes}
 use Rattle.request.specs.declared.SendTimes.the-variants.{Never, Sent}
 use Rattle.request.specs.declared.StunRequestState.{StunRequestState}
 use Rattle.model.specs.World.{World}
-use Rattle.model.specs.Runs.{Turn}
-use Rattle.model.specs.declared.Answer.the-variants as answer
-use Rattle.runs.specs.Run.{said, run, handsOut}
+use Rattle.model.specs.Runs.{Turn, run}
+use Rattle.runs.specs.Run.{said, handsOut}
 use Rattle.runs.specs.Round.{transmission, poll, isReport, Step, calls, plays}
 
 -- At most as many calls as the number says, until one hands nothing out, or reports nothing.

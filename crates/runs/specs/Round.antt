@@ -5,11 +5,12 @@ use mathlib.Core.Path.{_≡_}
 use mathlib.Core.Bool.{Bool, true, false}
 use mathlib.Core.List.{List, [], _∷_, _++_}
 use Rattle.model.specs.World.{World}
-use Rattle.model.specs.Calls.{Kind, carries, scans, names, meets, counts}
+use Rattle.model.specs.Calls.{Kind, carries, scans, names, meets, counts, onSome}
 use Rattle.model.specs.Runs.{Turn, plain}
 use Rattle.model.specs.declared.Call.the-variants as call
 use Rattle.model.specs.declared.Answer.{Answer}
 use Rattle.model.specs.declared.Answer.the-variants as answer
+use Rattle.runs.specs.Answers.{timedOutIn, cancelledIn}
 use Rattle.runs.specs.Run.{kindIn, said, handsOut}
 
 -- The two calls of a round.
@@ -21,19 +22,7 @@ poll now = plain (call.Poll now)
 
 -- An answer reports the end of a request.
 abbrev pub isReport : Answer → Bool
-isReport (answer.Refused n) = false
-isReport answer.Ok = false
-isReport answer.Yes = false
-isReport answer.No = false
-isReport answer.None = false
-isReport (answer.Send id to row len) = false
-isReport (answer.Wait clock) = false
-isReport (answer.TimedOut id) = true
-isReport (answer.Cancelled id) = true
-isReport (answer.Stats s) = false
-isReport (answer.Average a) = false
-isReport (answer.Outstanding n) = false
-isReport (answer.Request to integrity) = false
+isReport a = onSome (timedOutIn a) (onSome (cancelledIn a) false (λ id. true)) (λ id. true)
 
 -- "Takes transmissions until none is left": the calls, and the world after them.
 pub data Transmits (rows now : ℕ) : World → List Turn → World → Type 0 where

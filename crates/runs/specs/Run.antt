@@ -1,5 +1,5 @@
--- A run: calls with the bytes of their messages, one after the other, from a world. What it leaves, and when it sends a request or reports
--- that the request timed out. Answers and worlds are those of the model's `says`.
+-- A run: calls with the bytes of their messages, one after the other, from a world. When it sends a request or reports that the request
+-- timed out; what it leaves is the model's `run`. Answers and worlds are those of the model's `says`.
 use Prim.Native.Nat.{ℕ}
 use mathlib.Core.Bool.{Bool, true, false, cond, _&&_}
 use mathlib.Core.List.{List, [], _∷_, _++_}
@@ -10,13 +10,13 @@ use Rattle.message.specs.Attributes.{messageOf}
 use Rattle.message.specs.declared.Message.{Message}
 use Rattle.request.specs.declared.StunRequestState.{StunRequestState}
 use Rattle.model.specs.World.{World}
-use Rattle.model.specs.Calls.{Passage, submits, sends as sends-other, receives, Scan, transmits, reports, Wish, silence, cancel, configure, query, Kind, carries, scans, names, meets, counts, kindOf}
+use Rattle.model.specs.Calls.{Passage, submits, sends as sends-other, receives, Scan, transmits, reports, Wish, silence, cancel, configure, query, Kind, carries, scans, names, meets, counts, kindOf, onSome}
 use Rattle.model.specs.Accepts.{onMessage, isResponse, accepts}
 use Rattle.model.specs.Refusals.{refusalOf}
 use Rattle.model.specs.Says.{Said, saysOf}
 use Rattle.model.specs.Runs.{Turn}
 use Rattle.model.specs.declared.Answer.{Answer}
-use Rattle.model.specs.declared.Answer.the-variants as answer
+use Rattle.runs.specs.Answers.{onTransmission, timedOutIn}
 
 -- What a call of a run is about, and what the host has after it.
 abbrev pub kindIn : Turn → Kind
@@ -25,57 +25,16 @@ kindIn t = kindOf (t .made)
 abbrev pub said : ℕ → World → Turn → Said
 said rows w t = saysOf rows w (kindIn t) (t .bytes)
 
--- The world after a run.
-unfoldable pub run : ℕ → World → List Turn → World
-run rows w [] = w
-run rows w (t ∷ ts) = run rows (said rows w t .world) ts
-
 -- An answer hands a request out, and hands out the one with the identifier x; reports that this one timed out. An identifier is one
 -- number, by which the model tells requests apart.
 abbrev pub handsOut : Answer → Bool
-handsOut (answer.Refused n) = false
-handsOut answer.Ok = false
-handsOut answer.Yes = false
-handsOut answer.No = false
-handsOut answer.None = false
-handsOut (answer.Send id to row len) = true
-handsOut (answer.Wait clock) = false
-handsOut (answer.TimedOut id) = false
-handsOut (answer.Cancelled id) = false
-handsOut (answer.Stats s) = false
-handsOut (answer.Average a) = false
-handsOut (answer.Outstanding n) = false
-handsOut (answer.Request to integrity) = false
+handsOut a = onTransmission a false (λ id row len. true)
 
 abbrev pub handsOutIt : ℕ → Answer → Bool
-handsOutIt x (answer.Refused n) = false
-handsOutIt x answer.Ok = false
-handsOutIt x answer.Yes = false
-handsOutIt x answer.No = false
-handsOutIt x answer.None = false
-handsOutIt x (answer.Send id to row len) = eqb (key id) x
-handsOutIt x (answer.Wait clock) = false
-handsOutIt x (answer.TimedOut id) = false
-handsOutIt x (answer.Cancelled id) = false
-handsOutIt x (answer.Stats s) = false
-handsOutIt x (answer.Average a) = false
-handsOutIt x (answer.Outstanding n) = false
-handsOutIt x (answer.Request to integrity) = false
+handsOutIt x a = onTransmission a false (λ id row len. eqb (key id) x)
 
 abbrev pub timesOutIt : ℕ → Answer → Bool
-timesOutIt x (answer.Refused n) = false
-timesOutIt x answer.Ok = false
-timesOutIt x answer.Yes = false
-timesOutIt x answer.No = false
-timesOutIt x answer.None = false
-timesOutIt x (answer.Send id to row len) = false
-timesOutIt x (answer.Wait clock) = false
-timesOutIt x (answer.TimedOut id) = eqb (key id) x
-timesOutIt x (answer.Cancelled id) = false
-timesOutIt x (answer.Stats s) = false
-timesOutIt x (answer.Average a) = false
-timesOutIt x (answer.Outstanding n) = false
-timesOutIt x (answer.Request to integrity) = false
+timesOutIt x a = onSome (timedOutIn a) false (λ id. eqb (key id) x)
 
 -- The clock of a call, where the test holds.
 abbrev pub noted : Bool → ℕ → List ℕ

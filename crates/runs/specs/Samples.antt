@@ -21,7 +21,8 @@ use Rattle.request.specs.declared.StunRequestState.{StunRequestState}
 use Rattle.model.specs.Calls.{Passage, submits, sends, receives, transmits, reports, Kind, carries, scans, names, meets, counts, passageOf, onSome}
 use Rattle.model.specs.Accepts.{onMessage, isResponse}
 use Rattle.model.specs.declared.Answer.{Answer}
-use Rattle.runs.specs.Counts.{Exchange, isYes, one, stopped, Counters}
+use Rattle.runs.specs.Answers.{isYes}
+use Rattle.runs.specs.Counts.{Exchange, one, stopped, Counters}
 use Rattle.runs.specs.Followed.{reaches, followed, followedThrough}
 
 -- The requests as the calls so far left them, by identifier.

@@ -11,8 +11,7 @@
 use Prim.Native.Nat.{ℕ}
 use mathlib.Core.List.{List, [], _∷_, _++_}
 use Rattle.model.specs.World.{World}
-use Rattle.model.specs.Runs.{Turn}
-use Rattle.runs.specs.Run.{run}
+use Rattle.model.specs.Runs.{Turn, run}
 use Rattle.runs.specs.Round.{Round, Step, plays, Runs}
 use Rattle.runs.specs.Times.{NoLater}
 use Rattle.runs.specs.Demand.{Steady, Start, begins, Submission, sendsOf, timeoutOf, EachRun}

@@ -2,6 +2,7 @@
 --     is-part, in-store    where a row and a length are the store's
 --     part-copied          the part of the row written is the message
 --     part-other           the part of any other row is what it was
+--     byte-kept            and so is every byte that the copy doesn't cover
 --     length-copied, length-part    the lengths
 use mathlib.Core.Path.{_≡_, refl, sym, ap, _∙_}
 use mathlib.Core.Logic.{_⊎_, inl, inr, ⊎-elim}
@@ -10,8 +11,8 @@ use mathlib.Core.List.{List, [], _∷_, _++_, append-assoc}
 use Prim.Native.Nat.{ℕ, zero, suc, _+_, _-_, _*_, _≤_, _<_}
 use native.Mathlib.Decide.{decLe}
 use native.Mathlib.Omega.{arith}
-use lib.ListN.{length, take, drop, length-append, length-drop}
-use lib.Seq.{take-nil, take-take, take-at, drop-at, drop-drop, length-take-le}
+use lib.ListN.{length, take, drop, getD, length-append, length-drop, List·getD-append}
+use lib.Seq.{take-nil, take-take, take-at, drop-at, drop-drop, length-take-le, getD-take, getD-drop}
 use borrow.Author.Tests.{lt-ltb, le-leb, ltb-true, leb-true}
 use Rattle.store.specs.Rows.{inStore, stored, copied, partOf}
 
@@ -56,6 +57,20 @@ module _ (store : List ℕ) (row : ℕ) (bytes : List ℕ) (fits : row * 1024 + 
       let e = row * 1024 + length bytes in
       let gap : k * 1024 ≡ e + (k * 1024 - e) = omega arith in
       rw (gap, ← drop-drop (k * 1024 - e) e (stored store row bytes), ← drop-drop (k * 1024 - e) e store, behind)
+
+  byte-before : (i : ℕ) → i < row * 1024 → getD (stored store row bytes) i 0 ≡ getD store i 0
+  unfolding stored
+  byte-before i h =
+      let k : i < length (take (row * 1024) store) = omega (arith, head-length) in
+      List·getD-append (take (row * 1024) store) (bytes ++ drop (row * 1024 + length bytes) store) 0 i k ∙ getD-take (row * 1024) store i 0 h
+
+  byte-behind : (i : ℕ) → row * 1024 + length bytes ≤ i → getD (stored store row bytes) i 0 ≡ getD store i 0
+  byte-behind i h =
+      let e = row * 1024 + length bytes in
+      let j = i - e in
+      let b : e + j ≡ i = omega arith in
+      ap (λ (n : ℕ). getD (stored store row bytes) n 0) (sym b) ∙ sym (getD-drop e (stored store row bytes) j 0)
+      ∙ ap (λ (l : List ℕ). getD l j 0) behind ∙ getD-drop e store j 0 ∙ ap (λ (n : ℕ). getD store n 0) b
 
 pub record IsPart (rows : ℕ) (store : List ℕ) (row len : ℕ) : Type 0 where
   pub is-row : row < rows
@@ -129,6 +144,16 @@ module _ (rows : ℕ) (store : List ℕ) (row : ℕ) (bytes : List ℕ) where
       go : (b : Bool) → inStore rows store row (length bytes) ≡ b → partOf rows (cond b (stored store row bytes) store) k len ≡ partOf rows store k len
       go true e = part-beside e k len other
       go false e = refl
+
+  pub byte-kept : (i : ℕ) → (i < row * 1024) ⊎ (row * 1024 + length bytes ≤ i) → getD (copied rows store row bytes) i 0 ≡ getD store i 0
+  unfolding copied
+  byte-kept i h = go (inStore rows store row (length bytes)) refl h
+    where
+      go : (b : Bool) → inStore rows store row (length bytes) ≡ b → (i < row * 1024) ⊎ (row * 1024 + length bytes ≤ i)
+          → getD (cond b (stored store row bytes) store) i 0 ≡ getD store i 0
+      go true e (inl h) = byte-before store row bytes (bytes-fit e) i h
+      go true e (inr h) = byte-behind store row bytes (bytes-fit e) i h
+      go false e h = refl
 
 pub length-part : (rows : ℕ) (store : List ℕ) (row len : ℕ) → inStore rows store row len ≡ true → length (partOf rows store row len) ≡ len
 unfolding partOf

@@ -1,6 +1,7 @@
 -- The test of settings decides their limits, and what the limits say of the waits.
 --     too-many, .., too-long-last    one law for each clause that fails, in the order of the test
 --     within-limits                  the test holds exactly where the limits do
+--     default-limits                 the default settings are within them
 --     waits-most, final-most         at most 32 waits, and none is longer than 2^61
 use mathlib.Core.Path.{_≡_}
 use mathlib.Core.Bool.{true, false, and-eq-true-iff}
@@ -9,7 +10,7 @@ use Prim.Native.Nat.{ℕ, _^_, _≤_, _<_}
 use native.Mathlib.Omega.{arith}
 use lib.Dec.{leb}
 use borrow.Author.Tests.{le-leb, lt-leb, leb-true}
-use Rattle.waits.specs.Waits.{Limits, withinLimits, waitsOf, waitOf, finalWait}
+use Rattle.waits.specs.Waits.{Limits, withinLimits, defaultRto, waitsOf, waitOf, finalWait}
 use Rattle.waits.specs.declared.RequestRto.{RequestRto}
 use Rattle.waits.specs.declared.Transport.{Transport}
 use Rattle.waits.specs.declared.Transport.the-variants.{Udp, Tcp}
@@ -43,6 +44,10 @@ within-limits s = (
       record { count = leb-true _ _ (a .0); initial = leb-true _ _ (b .0); most = leb-true _ _ (c .0); last = leb-true _ _ (c .1) },
   λ l. simp (le-leb _ _ (l .count), le-leb _ _ (l .initial), le-leb _ _ (l .most), le-leb _ _ (l .last)),
 )
+
+pub default-limits : Limits defaultRto
+unfolding defaultRto
+default-limits = record { count = omega arith; initial = omega arith; most = omega arith; last = omega arith }
 
 module _ {s : RequestRto} (l : Limits s) where
   pub waits-most : (t : Transport) → waitsOf t s ≤ 32

@@ -1,5 +1,6 @@
 -- `build` meets its contract, by the settings and whether statistics are on. Assumes nothing.
-use Rattle.agent.proofs.Fresh.{refused-settings, fresh-counting, fresh-silent}
+use mathlib.Core.Bool.{true, false}
+use Rattle.agent.proofs.Fresh.{refused-settings, fresh-agent}
 use Rattle.agent.proofs.Ready.{fails, passes}
 use borrow.Author.Needs.{needs}
 use Rattle.agent.proofs.build.Statement.{statement}
@@ -12,10 +13,10 @@ returns : tie.Need-returns
 returns c = refused-settings _ (fails (c .before .within-limits .ensures) (c .if1 .taken))
 
 returns-2 : tie.Need-returns-2
-returns-2 c = fresh-counting _ (passes (c .before .before .within-limits .ensures) (c .before .if1 .left)) (c .if2 .taken)
+returns-2 c = fresh-agent _ true (passes (c .before .before .within-limits .ensures) (c .before .if1 .left)) (c .if2 .taken)
 
 returns-3 : tie.Need-returns-3
-returns-3 c = fresh-silent _ (passes (c .before .before .within-limits .ensures) (c .before .if1 .left)) (c .if2 .left)
+returns-3 c = fresh-agent _ false (passes (c .before .before .within-limits .ensures) (c .before .if1 .left)) (c .if2 .left)
 
 pub build-spec : {M : Type 1} → statement M
 build-spec = tie.close (tie.spec within-limits-requires returns returns-2 returns-3)

@@ -1,10 +1,10 @@
 //! Times the port against the Rust agent on the same traces, in one process and in turns; `tools/benchmarks` builds and runs it.
 //!
-//! bench ROUNDS               a table: nanoseconds a record, the best of that many rounds
-//! bench traces               the names of the traces and how many records each has
+//! bench ROUNDS                a table: nanoseconds a record, the best of that many rounds
+//! bench traces                each trace's name, how many records it has, and the table's words for it
 //! bench play SIDE NAME TIMES  plays one trace on `port`, `rust` or `calls`, and prints nothing: for counting instructions
 //!
-//! Each of them first makes sure that the port and the Rust give the same lines on what is played.
+//! A trace that is played is first checked: the port and the Rust must give the same lines.
 
 mod sides;
 mod traces;

@@ -1,3 +1,4 @@
 pub mod Session
+pub mod Rounds
 pub mod Unset
 pub mod Row

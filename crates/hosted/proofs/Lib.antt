@@ -6,3 +6,4 @@ pub mod Demand
 mod Still
 pub mod Unset
 pub mod Row
+mod Example

@@ -1,21 +1,26 @@
--- Demand 3 of two sessions with the same settings and lent memory, the second with more rounds. Its last sentence is about one run, and
--- stands in crate `runs`.
---     session-demand3     the theorem
+-- Demand 3 of two sessions with the same settings and lent memory, the second with more rounds; and its last sentence, of one session.
+--     session-demand3, session-last     the theorem
 use Prim.Native.Nat.{ℕ}
-use mathlib.Core.Path.{_≡_, ap, subst, _∙_}
-use mathlib.Core.List.{List}
+use mathlib.Core.Path.{_≡_, sym, ap, subst, _∙_}
+use mathlib.Core.List.{List, [], _∷_, _++_, append-nil}
 use Rattle.stats.specs.declared.StunAgentStats.{StunAgentStats}
-use Rattle.model.specs.Runs.{Turn}
+use Rattle.model.specs.World.{World}
+use Rattle.model.specs.Runs.{Turn, answers}
 use Rattle.model.specs.declared.StunAgentBuilder.{StunAgentBuilder}
-use Rattle.runs.specs.Round.{Step, MoreRounds}
-use Rattle.runs.specs.Demand.{Start, Submission, Life, sendsOf, timeoutOf, EachRun}
+use Rattle.model.specs.declared.Answer.{Answer}
+use Rattle.runs.specs.Round.{Round, round, Step, plays, MoreRounds}
+use Rattle.runs.specs.Demand.{Steady, Start, begins, Submission, Life, sendsOf, timeoutOf, EachRun}
+use Rattle.runs.specs.Last.{LastSentence}
 use Rattle.runs.specs.Counts.{Exchange}
 use Rattle.runs.specs.Whole.{Demand3}
+use Rattle.runs.proofs.Steady.{round-world}
+use Rattle.runs.proofs.Last.{last-sentence}
 use Rattle.runs.proofs.Whole.{demand3}
-use Rattle.hosted.specs.Session.{Owned, startOf, sentIn, timedOutAt, Submitted, saw}
-use Rattle.hosted.specs.Rounds.{Plays, Seldom, NeverLater}
+use Rattle.hosted.specs.Session.{Owned, worldIn, Serves, Session, startOf, AsModel, sentIn, timedOutAt, Submitted, saw}
+use Rattle.hosted.specs.Rounds.{Transmissions, Reports, Played, Plays, Seldom, NeverLater}
+use Rattle.hosted.proofs.Session.{serves-as-model, served-as-model}
 use Rattle.hosted.proofs.Theorems.{session-sends, session-timeouts}
-use Rattle.hosted.proofs.Rounds.{plays-life}
+use Rattle.hosted.proofs.Rounds.{transmits, polls, played-runs, plays-life}
 
 module _ (x : ℕ) (b : StunAgentBuilder) (was : StunAgentStats) (o o′ : Owned) (q : Submission) (before later before′ later′ : List Turn)
     (s : Submitted x b was o before q later) (s′ : Submitted x b was o′ before′ q later′)
@@ -49,3 +54,23 @@ module _ (x : ℕ) (b : StunAgentBuilder) (was : StunAgentStats) (o o′ : Owned
         each-send-no-later = rw (a, a′) (compared .each-send-no-later);
         timeout-no-later = rw (e, e′) (compared .timeout-no-later);
       }
+
+-- "The wait that ends a round": after a session, a round at `now` that was told to wait until `clock`.
+module _ (b : StunAgentBuilder) (was : StunAgentStats) (o : Owned) (ss : List Step) (before : List Turn) (l : List Answer) (here : Owned)
+    (s : Session b was o before l here) (p : Played ss before l) (now clock : ℕ) (steady : Steady 0 (ss ++ (plays now ∷ [])))
+    (rs ps : List Turn) (k j : List Answer) (o′ : Owned) (sends : Transmissions now rs k) (ends : Reports now ps j clock)
+    (d : Serves here (rs ++ ps) (k ++ j) o′) where
+  model : AsModel (begins (startOf b was o)) before l here
+  model = served-as-model b was o before l here s
+
+  pub session-last : LastSentence 32 (startOf b was o) before now clock (worldIn o′)
+  session-last =
+      let w = worldIn here in
+      let m = serves-as-model d (model .whole) in
+      let y = transmits 32 sends w ps j (m .answers-are) in
+      let z = polls 32 ends (y .0) [] [] (append-nil j ∙ y .2 ∙ ap (answers 32 (y .0)) (sym (append-nil ps))) in
+      let r : Round 32 now w (rs ++ ps) (z .0) clock = round (y .1) (z .1) in
+      let is : z .0 ≡ worldIn o′ = sym (round-world r) ∙ sym (m .world-is) in
+      subst (LastSentence 32 (startOf b was o) before now clock) is
+      (last-sentence 32 (startOf b was o) ss before (rs ++ ps) now clock (z .0) (played-runs 32 p (begins (startOf b was o)) (model .answers-are)) steady
+      (subst (λ (v : World). Round 32 now v (rs ++ ps) (z .0) clock) (model .world-is) r))

@@ -1,6 +1,5 @@
 -- The session that meets every hypothesis, by computation.
-use Prim.Native.Nat.{ℕ}
-use mathlib.Core.Path.{_≡_, refl, sym, ap}
+use mathlib.Core.Path.{_≡_, refl, ap}
 use mathlib.Core.List.{List, [], _∷_}
 use native.Mathlib.Omega.{arith}
 use lib.ListN.{length}
@@ -49,13 +48,17 @@ unfoldable opened : Unit {0}
 unfolding fresh.buildOf said.refusalIn said.saidIn said.wordsIn rows.withRows coding.decodeBy coding.decode coding.encode worked.message world.stateFormed accepts.accepts accepts.newPeer refusals.refusalOf effects.newRequest effects.changeOf effects.answerOf effects.eventOf effects.peersAfter effects.peerCount effects.after waits.withinLimits waits.finalWait waits.defaultRto formed.formed limits.withinLimits request.submitted request.stepped request.transmitOf request.pollOf times.passedAll times.dueOf times.endOf times.isDue times.isOver times.momentOf head.key head.idAt head.classOf head.headGood head.readHead head.headOf attributes.attributesFrom attributes.later attributes.walkOf attributes.messageOf count.counted store.inStore store.stored store.copied
 opened = tt
 
-called : (o : Owned) (t : Turn) → live (after o t .agent .requests) (after o t .table) ≡ saidIn (o .table) (worldIn o) (kindIn t) (t .bytes) .world .requests
+called : (o : Owned) (t : Turn)
+    → live (after o t .agent .requests) (after o t .table) ≡ saidIn (o .table) (worldIn o) (kindIn t) (t .bytes) .world .requests
     → length (after o t .table) ≡ length (o .table) → Calls o t (answerTo o t) (after o t)
 called o t e n =
     let s = saidIn (o .table) (worldIn o) (kindIn t) (t .bytes) in
     record {
       performed = record {
-        says = ap (λ (l : List StunRequestState). record { answer = s .answer; world = worldWith (s .world .agent) l (s .world .store) (s .world .peers) (s .world .stats) }) e;
+        says = ap (λ (l : List StunRequestState). record {
+          answer = s .answer;
+          world = worldWith (s .world .agent) l (s .world .store) (s .world .peers) (s .world .stats);
+        }) e;
         words = refl;
       };
       same-length = n;

@@ -1,5 +1,6 @@
 -- What a host played, by the answers that it saw, is what `Runs` and `Life` of crate `runs` say of the model.
---     plays-life     demand 3's hypotheses
+--     transmits, polls, played-runs    rounds, and steps
+--     plays-life                       demand 3's hypotheses
 use Prim.Native.Nat.{ℕ, zero, suc}
 use mathlib.Core.Path.{_≡_, refl, sym, ap, subst, _∙_}
 use mathlib.Core.Bool.{Bool, true, false, _&&_}
@@ -48,7 +49,7 @@ tail-same : {a c : Answer} {l k : List Answer} → a ∷ l ≡ c ∷ k → l ≡
 tail-same e = cc
 
 module _ (rows : ℕ) where
-  transmits : {now : ℕ} {rs : List Turn} {k : List Answer} → Transmissions now rs k → (w : World) (bs : List Turn) (l : List Answer)
+  pub transmits : {now : ℕ} {rs : List Turn} {k : List Answer} → Transmissions now rs k → (w : World) (bs : List Turn) (l : List Answer)
       → k ++ l ≡ answers rows w (rs ++ bs) → (v : World) × Transmits rows now w rs v × (l ≡ answers rows v bs)
   unfolding answers
   transmits {now} none-left w bs l e =
@@ -58,23 +59,23 @@ module _ (rows : ℕ) where
       let y = transmits d (said rows w (transmission now) .world) bs l (tail-same e) in
       (y .0, runs.one-more (ap handsOut (sym z) ∙ h) (y .1), y .2)
 
-  polls : {now : ℕ} {ps : List Turn} {j : List Answer} → Reports now ps j → (w : World) (bs : List Turn) (l : List Answer)
-      → j ++ l ≡ answers rows w (ps ++ bs) → (u : World) × (clock : ℕ) × Polls rows now w ps u clock × (l ≡ answers rows u bs)
+  pub polls : {now clock : ℕ} {ps : List Turn} {j : List Answer} → Reports now ps j clock → (w : World) (bs : List Turn) (l : List Answer)
+      → j ++ l ≡ answers rows w (ps ++ bs) → (u : World) × Polls rows now w ps u clock × (l ≡ answers rows u bs)
   unfolding answers
-  polls {now} (told-to-wait {clock}) w bs l e = (said rows w (poll now) .world, clock, runs.told-to-wait (sym (head-same e)), tail-same e)
+  polls {now} told-to-wait w bs l e = (said rows w (poll now) .world, runs.told-to-wait (sym (head-same e)), tail-same e)
   polls {now} (one-report {a} h d) w bs l e =
       let z : a ≡ said rows w (poll now) .answer = head-same e in
       let y = polls d (said rows w (poll now) .world) bs l (tail-same e) in
-      (y .0, y .1, runs.one-report (ap isReport (sym z) ∙ h) (y .2), y .3)
+      (y .0, runs.one-report (ap isReport (sym z) ∙ h) (y .1), y .2)
 
-  played-runs : {ss : List Step} {ts : List Turn} {l : List Answer} → Played ss ts l → (w : World) → l ≡ answers rows w ts → Runs rows w ss ts
+  pub played-runs : {ss : List Step} {ts : List Turn} {l : List Answer} → Played ss ts l → (w : World) → l ≡ answers rows w ts → Runs rows w ss ts
   unfolding answers
   played-runs ends w e = runs.ends
   played-runs (then-call {t} c d) w e = runs.then-call c (played-runs d (said rows w t .world) (tail-same e))
-  played-runs (then-round {now} {rs} {ps} {ts} {k} {j} {l} {ss} a b d) w e =
+  played-runs (then-round {now} {rs = rs} {ps} {ts} {j = j} {l} {ss} a b d) w e =
       let y = transmits a w (ps ++ ts) (j ++ l) e in
       let z = polls b (y .0) ts l (y .2) in
-      subst (Runs rows w (plays now ∷ ss)) (append-assoc rs ps ts) (runs.then-round (runs.round (y .1) (z .2)) (played-runs d (z .0) (z .3)))
+      subst (Runs rows w (plays now ∷ ss)) (append-assoc rs ps ts) (runs.then-round (runs.round (y .1) (z .1)) (played-runs d (z .0) (z .2)))
 
 -- ---- a request that is left alone
 

@@ -29,18 +29,18 @@ pub data Transmissions (now : ℕ) : List Turn → List Answer → Type 0 where
   one-more : {a : Answer} {ts : List Turn} {l : List Answer} → handsOut a ≡ true → Transmissions now ts l
       → Transmissions now (transmission now ∷ ts) (a ∷ l)
 
--- "then polls until told to wait".
-pub data Reports (now : ℕ) : List Turn → List Answer → Type 0 where
-  told-to-wait : {clock : ℕ} → Reports now (poll now ∷ []) (answer.Wait clock ∷ [])
-  one-report : {a : Answer} {ts : List Turn} {l : List Answer} → isReport a ≡ true → Reports now ts l
-      → Reports now (poll now ∷ ts) (a ∷ l)
+-- "then polls until told to wait": until that clock.
+pub data Reports (now : ℕ) : List Turn → List Answer → ℕ → Type 0 where
+  told-to-wait : {clock : ℕ} → Reports now (poll now ∷ []) (answer.Wait clock ∷ []) clock
+  one-report : {a : Answer} {ts : List Turn} {l : List Answer} {clock : ℕ} → isReport a ≡ true → Reports now ts l clock
+      → Reports now (poll now ∷ ts) (a ∷ l) clock
 
 -- "Transmissions and polls only in rounds."
 pub data Played : List Step → List Turn → List Answer → Type 0 where
   ends : Played [] [] []
   then-call : {t : Turn} {a : Answer} {ss : List Step} {ts : List Turn} {l : List Answer} → isScan (kindIn t) ≡ false → Played ss ts l
       → Played (calls t ∷ ss) (t ∷ ts) (a ∷ l)
-  then-round : {now : ℕ} {rs ps ts : List Turn} {k j l : List Answer} {ss : List Step} → Transmissions now rs k → Reports now ps j → Played ss ts l
+  then-round : {now clock : ℕ} {rs ps ts : List Turn} {k j l : List Answer} {ss : List Step} → Transmissions now rs k → Reports now ps j clock → Played ss ts l
       → Played (plays now ∷ ss) (rs ++ (ps ++ ts)) (k ++ (j ++ l))
 
 -- "Answered, cancelled in either way, reconfigured or submitted again": what a call did to x, by its answer.

@@ -72,5 +72,6 @@ module _ (b : StunAgentBuilder) (was : StunAgentStats) (o : Owned) (ss : List St
       let r : Round 32 now w (rs ++ ps) (z .0) clock = round (y .1) (z .1) in
       let is : z .0 ≡ worldIn o′ = sym (round-world r) ∙ sym (m .world-is) in
       subst (LastSentence 32 (startOf b was o) before now clock) is
-      (last-sentence 32 (startOf b was o) ss before (rs ++ ps) now clock (z .0) (played-runs 32 p (begins (startOf b was o)) (model .answers-are)) steady
+      (last-sentence 32 (startOf b was o) ss before (rs ++ ps) now clock (z .0)
+      (played-runs 32 p (begins (startOf b was o)) (model .answers-are)) steady
       (subst (λ (v : World). Round 32 now v (rs ++ ps) (z .0) clock) (model .world-is) r))

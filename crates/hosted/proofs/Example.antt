@@ -1,4 +1,4 @@
--- The session that meets every hypothesis, by computation.
+-- The session that meets all that is asked of one with a request in it, by computation.
 use mathlib.Core.Path.{_≡_, refl, ap}
 use mathlib.Core.List.{List, [], _∷_}
 use native.Mathlib.Omega.{arith}

@@ -1,5 +1,5 @@
--- A session that meets every hypothesis: a request is submitted to an agent whose settings were left unset, a round is played, and a
--- response is handed over.
+-- A session that meets all that is asked of one with a request in it: the request is submitted to an agent whose settings were left unset, a
+-- round is played, and a response is handed over.
 use mathlib.Core.Path.{_≡_}
 use mathlib.Core.Bool.{false}
 use mathlib.Core.List.{List, [], _∷_}

@@ -40,8 +40,8 @@ pub data Played : List Step → List Turn → List Answer → Type 0 where
   ends : Played [] [] []
   then-call : {t : Turn} {a : Answer} {ss : List Step} {ts : List Turn} {l : List Answer} → isScan (kindIn t) ≡ false → Played ss ts l
       → Played (calls t ∷ ss) (t ∷ ts) (a ∷ l)
-  then-round : {now clock : ℕ} {rs ps ts : List Turn} {k j l : List Answer} {ss : List Step} → Transmissions now rs k → Reports now ps j clock → Played ss ts l
-      → Played (plays now ∷ ss) (rs ++ (ps ++ ts)) (k ++ (j ++ l))
+  then-round : {now clock : ℕ} {rs ps ts : List Turn} {k j l : List Answer} {ss : List Step} → Transmissions now rs k
+      → Reports now ps j clock → Played ss ts l → Played (plays now ∷ ss) (rs ++ (ps ++ ts)) (k ++ (j ++ l))
 
 -- "Answered, cancelled in either way, reconfigured or submitted again": what a call did to x, by its answer.
 abbrev pub touches : ℕ → Kind → List ℕ → Answer → Bool

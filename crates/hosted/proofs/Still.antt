@@ -123,7 +123,7 @@ module _ (rows x : ℕ) (s : Start) (q : Submission) (pre post : List Step) (bef
       let b = submission (q .now) (y .«transaction_id») (y .integrity) (joined .row) (length (q .bytes)) (q .to) (start .agent .rto) in
       rw (joined .request-is) (record { first = q .now; times = b .times-are; silent = b .not-silenced; dropped = b .not-cancelled })
 
-  -- It is in the table while its timeout isn't reported, and the table is well formed.
+  -- It is in the table while its timeout isn't reported.
   pub in-table : timeouts rows x (run rows (begins s) before) (submits q ∷ later) ≡ []
       → (y : StunRequestState) × (requestOf (lookup x (run rows (run rows (begins s) before) (submits q ∷ later) .requests)) ≡ some y)
   unfolding run timeouts

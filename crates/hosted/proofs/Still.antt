@@ -60,7 +60,8 @@ nil-front (x ∷ xs) ys e = absurd (let z : _≡_ {A = ℕ} 0 1 = cc in omega ar
 
 module _ (rows x : ℕ) (tr : Transport) (set : RequestRto) where
   pub still-there : {w : World} {ss : List Step} {ts : List Turn} → Runs rows w ss ts → (m : ℕ) → Ok rows tr set m w → Steady m ss
-      → LeftAlone rows x w ts → (last : ℕ) (r : StunRequestState) → requestOf (lookup x (w .requests)) ≡ some r → Loud last r → timeouts rows x w ts ≡ []
+      → LeftAlone rows x w ts
+      → (last : ℕ) (r : StunRequestState) → requestOf (lookup x (w .requests)) ≡ some r → Loud last r → timeouts rows x w ts ≡ []
       → (q : StunRequestState) × (requestOf (lookup x (run rows w ts .requests)) ≡ some q)
   unfolding timeouts run
   still-there ends m o h n last r f q e = (r, f)
@@ -122,7 +123,7 @@ module _ (rows x : ℕ) (s : Start) (q : Submission) (pre post : List Step) (bef
       let b = submission (q .now) (y .«transaction_id») (y .integrity) (joined .row) (length (q .bytes)) (q .to) (start .agent .rto) in
       rw (joined .request-is) (record { first = q .now; times = b .times-are; silent = b .not-silenced; dropped = b .not-cancelled })
 
-  -- It is in the table while its timeout isn't reported, and the table is well formed.
+  -- It is in the table while its timeout isn't reported.
   pub in-table : timeouts rows x (run rows (begins s) before) (submits q ∷ later) ≡ []
       → (y : StunRequestState) × (requestOf (lookup x (run rows (run rows (begins s) before) (submits q ∷ later) .requests)) ≡ some y)
   unfolding run timeouts

@@ -28,9 +28,11 @@ use Rattle.runs.specs.Demand.{rounds, Submission, Life}
 use Rattle.runs.proofs.Times.{From, next-from, sends-few}
 use Rattle.runs.proofs.Demand.{closed-form}
 use Rattle.hosted.specs.Session.{Owned, worldIn, startOf, sentIn, timedOutAt, Submitted, saw}
+use Rattle.hosted.specs.Rounds.{Plays}
 use Rattle.hosted.specs.Unset.{lastOf, AllBefore, endsAt, UnsetWaits}
 use Rattle.hosted.proofs.Session.{call-as-model}
 use Rattle.hosted.proofs.Theorems.{session-sends, session-timeouts, session-world}
+use Rattle.hosted.proofs.Rounds.{plays-life}
 use Rattle.hosted.proofs.Still.{in-table, stays-formed, response-accepted}
 
 -- ---- the closed form: the end is counted from the last send
@@ -109,8 +111,11 @@ module _ (first : ℕ) (ticks sent over : List ℕ) (sent-are : sent ≡ first �
 -- ---- a session
 
 module _ (x : ℕ) (b : StunAgentBuilder) (was : StunAgentStats) (o : Owned) (before : List Turn) (q : Submission) (later : List Turn)
-    (s : Submitted x b was o before q later) (pre post : List Step) (life : Life 32 x (startOf b was o) q pre post before later)
+    (s : Submitted x b was o before q later) (pre post : List Step) (p : Plays s pre post)
     (udp : b .transport ≡ Udp) (left-unset : b .rto ≡ unset Udp .rto) where
+  life : Life 32 x (startOf b was o) q pre post before later
+  life = plays-life x b was o before q later s pre post p
+
   sent-are : sentIn x (saw s) ≡ q .now ∷ sendTimes defaultRto 6 0 (q .now) (rounds post)
   sent-are =
       session-sends x b was o before q later s ∙ closed-form 32 x (startOf b was o) q pre post before later life .sends-are

@@ -1,5 +1,5 @@
--- The row and the length that a host was handed with the first transmission of a request: it may keep them, for they stay those of the request
--- until its end. `Delivers`, of crate `runs`, speaks of the row that the table gives at each moment.
+-- The row and the length that a host was handed with the first transmission of a request: it may keep them, for they stay those of the
+-- request until its end. `Delivers`, of crate `runs`, speaks of the row that the table gives at each moment.
 use Prim.Native.Nat.{ℕ}
 use mathlib.Core.Path.{_≡_}
 use mathlib.Core.List.{List}

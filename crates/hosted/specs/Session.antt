@@ -19,8 +19,7 @@ use Rattle.model.specs.declared.Answer.{Answer}
 use Rattle.agent.specs.Ready.{worldOf}
 use Rattle.entry.specs.Entry.{Performed, Started}
 use Rattle.runs.specs.Run.{kindIn, run, sendsBy, timeoutsBy}
-use Rattle.runs.specs.Times.{NoLater}
-use Rattle.runs.specs.Demand.{Start, Submission, submits, most, Spaced}
+use Rattle.runs.specs.Demand.{Start, Submission, submits}
 use Rattle.runs.specs.Counts.{Exchange, seen}
 use Rattle.runs.specs.Ends.{submitsIt}
 
@@ -101,7 +100,8 @@ timedOutAt x (e ∷ l) = timeoutsBy x (e .about) (e .answer) ++ timedOutAt x l
 -- ---- a session with a request in it
 
 -- Calls up to a submission, which is accepted: its answer hands out the request x. And calls after it.
-pub record Submitted (x : ℕ) (b : StunAgentBuilder) (was : StunAgentStats) (o : Owned) (before : List Turn) (q : Submission) (later : List Turn) : Type 0 where
+pub record Submitted
+    (x : ℕ) (b : StunAgentBuilder) (was : StunAgentStats) (o : Owned) (before : List Turn) (q : Submission) (later : List Turn) : Type 0 where
   pub earlier : List Answer
   pub here : Owned
   pub session : Session b was o before earlier here
@@ -117,18 +117,3 @@ pub record Submitted (x : ℕ) (b : StunAgentBuilder) (was : StunAgentStats) (o 
 abbrev pub saw : {x : ℕ} {b : StunAgentBuilder} {was : StunAgentStats} {o : Owned} {before : List Turn} {q : Submission} {later : List Turn}
     → Submitted x b was o before q later → List Exchange
 saw {q = q} {later = later} s = sights (submits q ∷ later) (s .answer ∷ s .replies)
-
--- Demand 3, of what the host saw of x in one session,
-pub record Seldom (x : ℕ) (b : StunAgentBuilder) (l : List Exchange) : Type 0 where
-  -- "goes out at most max(R,1) times by UDP, once by TCP"
-  pub goes-out-at-most : length (sentIn x l) ≤ most (b .transport) (b .rto)
-  -- "gap k is at least min(initial × 2^(k-1), max)"
-  pub gap-at-least : Spaced (b .rto) (sentIn x l)
-
--- and in two.
-pub record NeverLater (x : ℕ) (b : StunAgentBuilder) (l l′ : List Exchange) : Type 0 where
-  pub first : Seldom x b l
-  pub second : Seldom x b l′
-  -- "each send the first run makes, and its timeout, comes no later in the second"
-  pub each-send-no-later : NoLater (sentIn x l′) (sentIn x l)
-  pub timeout-no-later : NoLater (timedOutAt x l′) (timedOutAt x l)

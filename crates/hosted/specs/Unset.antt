@@ -24,7 +24,7 @@ use Rattle.runs.specs.Times.{next, listOf}
 use Rattle.runs.specs.Counts.{Exchange}
 use Rattle.hosted.specs.Session.{Owned, worldIn, Calls, sentIn, timedOutAt}
 
--- The last of some clocks, the first of which is given apart.
+-- The last of some clocks; `first` if there are none.
 abbrev pub lastOf : ℕ → List ℕ → ℕ
 lastOf first [] = first
 lastOf first (t ∷ ts) = lastOf t ts
@@ -43,7 +43,7 @@ pub record Response (x : ℕ) (t : Turn) : Type 0 where
   pub responds : isResponse (message .class) ≡ true
   pub named : key (message .«transaction_id») ≡ x
 
--- The moment from which on a round may report the timeout of a request that was sent at these clocks, the first of them at `first`.
+-- 8,000 ms after the last send of a request that was submitted at `first` and sent at these clocks.
 abbrev pub endsAt : ℕ → List ℕ → ℕ
 endsAt first sent = lastOf first sent + milliseconds 8000
 
@@ -53,7 +53,7 @@ pub record UnsetWaits (x first : ℕ) (l : List Exchange) (ticks : List ℕ) (o 
   pub at-most-seven : length (sentIn x l) ≤ 7
   -- The timeout isn't reported before the seventh send,
   pub none-before-the-seventh : length (sentIn x l) < 7 → timedOutAt x l ≡ []
-  -- and then once, at the first round that isn't less than 8,000 ms after it.
+  -- and then once, at the first round 8,000 ms after it or later.
   pub timeout-is : length (sentIn x l) ≡ 7 → timedOutAt x l ≡ listOf (next ticks (endsAt first (sentIn x l)))
   pub never-sooner : (t : ℕ) → timedOutAt x l ≡ t ∷ [] → endsAt first (sentIn x l) ≤ t
   -- Until such a round a response is accepted, unless its clock is refused, or its sender is new and the list of peers full.

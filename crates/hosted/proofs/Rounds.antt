@@ -21,7 +21,7 @@ use Rattle.model.specs.Accepts.{onMessage, isResponse, accepts}
 use Rattle.model.specs.Refusals.{refusalOf}
 use Rattle.model.specs.Effects.{yesOrNo, passageAnswer}
 use Rattle.model.specs.Says.{numberIn, saysOf}
-use Rattle.model.specs.Runs.{Turn, answers}
+use Rattle.model.specs.Runs.{Turn, answers, run}
 use Rattle.model.specs.declared.StunAgentBuilder.{StunAgentBuilder}
 use Rattle.model.specs.declared.Answer.{Answer}
 use Rattle.model.specs.declared.Answer.the-variants as answer
@@ -29,11 +29,12 @@ use Rattle.model.proofs.Refused.{refused-same}
 use Rattle.model.proofs.Answers.{answer-number}
 use Rattle.model.proofs.Classes.{done, answer-receives}
 use Rattle.model.proofs.Store.{request-accepted}
-use Rattle.runs.specs.Run.{kindIn, said, run, handsOut, answersTo, handles}
+use Rattle.runs.specs.Run.{kindIn, said, handsOut, answersTo, handles}
 use Rattle.runs.specs.Round as runs
 use Rattle.runs.specs.Round.{transmission, poll, isReport, Step, plays, Runs, Transmits, Polls}
 use Rattle.runs.specs.Demand.{LeftAlone, begins, Submission, submits, Life}
-use Rattle.runs.specs.Counts.{exchange, isYes}
+use Rattle.runs.specs.Answers.{isYes}
+use Rattle.runs.specs.Counts.{exchange}
 use Rattle.runs.specs.Ends.{submitsIt, respondsTo}
 use Rattle.runs.proofs.Bytes.{passes, formed, is-x}
 use Rattle.hosted.specs.Session.{Owned, startOf, Submitted}
@@ -51,7 +52,6 @@ tail-same e = cc
 module _ (rows : ℕ) where
   pub transmits : {now : ℕ} {rs : List Turn} {k : List Answer} → Transmissions now rs k → (w : World) (bs : List Turn) (l : List Answer)
       → k ++ l ≡ answers rows w (rs ++ bs) → (v : World) × Transmits rows now w rs v × (l ≡ answers rows v bs)
-  unfolding answers
   transmits {now} none-left w bs l e =
       (said rows w (transmission now) .world, runs.none-left (sym (head-same e)), tail-same e)
   transmits {now} (one-more {a} h d) w bs l e =
@@ -61,7 +61,6 @@ module _ (rows : ℕ) where
 
   pub polls : {now clock : ℕ} {ps : List Turn} {j : List Answer} → Reports now ps j clock → (w : World) (bs : List Turn) (l : List Answer)
       → j ++ l ≡ answers rows w (ps ++ bs) → (u : World) × Polls rows now w ps u clock × (l ≡ answers rows u bs)
-  unfolding answers
   polls {now} told-to-wait w bs l e = (said rows w (poll now) .world, runs.told-to-wait (sym (head-same e)), tail-same e)
   polls {now} (one-report {a} h d) w bs l e =
       let z : a ≡ said rows w (poll now) .answer = head-same e in
@@ -69,7 +68,6 @@ module _ (rows : ℕ) where
       (y .0, runs.one-report (ap isReport (sym z) ∙ h) (y .1), y .2)
 
   pub played-runs : {ss : List Step} {ts : List Turn} {l : List Answer} → Played ss ts l → (w : World) → l ≡ answers rows w ts → Runs rows w ss ts
-  unfolding answers
   played-runs ends w e = runs.ends
   played-runs (then-call {t} c d) w e = runs.then-call c (played-runs d (said rows w t .world) (tail-same e))
   played-runs (then-round {now} {rs = rs} {ps} {ts} {j = j} {l} {ss} a b d) w e =
@@ -126,7 +124,6 @@ module _ (rows x : ℕ) (w : World) (m : List ℕ) where
       go (suc n) e = rw (e, refused-same rows w k m n e, not-none n) (refused-touches n k)
 
 left-alone : (rows x : ℕ) (ts : List Turn) (w : World) → Untouched x ts (answers rows w ts) → LeftAlone rows x w ts
-unfolding answers
 left-alone rows x [] w h = tt
 left-alone rows x (t ∷ ts) w h = (sym (touches-is rows x w (t .bytes) (kindIn t)) ∙ h .0, left-alone rows x ts (said rows w t .world) (h .1))
 
@@ -143,7 +140,6 @@ module _ (x : ℕ) (b : StunAgentBuilder) (was : StunAgentStats) (o : Owned) (be
       (taken x b was o before q later s)
 
   later-are : s .replies ≡ answers 32 (said 32 here (submits q) .world) later
-  unfolding answers
   later-are = tail-same (session-world x b was o before q later s .answers-are)
 
   is-named : (y : Message) → messageOf (q .bytes) ≡ Good y → key (y .«transaction_id») ≡ x

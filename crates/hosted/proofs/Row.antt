@@ -24,15 +24,15 @@ use Rattle.model.specs.Calls.{submits, sends, receives, transmits, reports, Kin
 use Rattle.model.specs.Refusals.{refusalOf}
 use Rattle.model.specs.Says.{Said, numberIn, saysOf}
 use Rattle.model.specs.Parts.{transmissionOf}
-use Rattle.model.specs.Runs.{Turn}
+use Rattle.model.specs.Runs.{Turn, run}
 use Rattle.model.specs.declared.StunAgentBuilder.{StunAgentBuilder}
 use Rattle.model.specs.declared.Answer.the-variants as answer
-use Rattle.model.proofs.Below.{submission}
+use Rattle.request.proofs.Kept.{submission}
 use Rattle.model.proofs.Answers.{answer-number, sends-out}
 use Rattle.model.proofs.Kept.{says-formed}
 use Rattle.model.proofs.Store.{request-accepted}
 use Rattle.model.proofs.Parts.{transmission-kept}
-use Rattle.runs.specs.Run.{kindIn, said, run, handsOutIt}
+use Rattle.runs.specs.Run.{kindIn, said, handsOutIt}
 use Rattle.runs.specs.Demand.{Submission, submits as submission-of}
 use Rattle.runs.specs.Counts.{exchange, history}
 use Rattle.runs.specs.Ends.{submitsIt, endBy, Unended}
@@ -116,7 +116,7 @@ module _ (rows x row len : ℕ) (to : Address) (m : List ℕ) (w : World) (h : R
 
 rowed-run : (rows x row len : ℕ) (to : Address) (m : List ℕ) (ts : List Turn) (w : World)
     → Rowed rows x row len to m w → Unended x (history rows w ts) → Rowed rows x row len to m (run rows w ts)
-unfolding run history
+unfolding history
 rowed-run rows x row len to m [] w h u = h
 rowed-run rows x row len to m (t ∷ ts) w h u =
     rowed-run rows x row len to m ts (said rows w t .world) (rowed-after rows x row len to m w h (t .bytes) (kindIn t) (u .0)) (u .2)

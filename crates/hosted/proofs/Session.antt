@@ -18,7 +18,7 @@ use Rattle.model.specs.World.{World}
 use Rattle.model.specs.Fresh.{freshAgent, freshEvent, buildOf}
 use Rattle.model.specs.Refusals.{SETTINGS, numberOf}
 use Rattle.model.specs.Says.{Said}
-use Rattle.model.specs.Runs.{Turn, answers}
+use Rattle.model.specs.Runs.{Turn, answers, run}
 use Rattle.model.specs.declared.StunAgent.{StunAgent}
 use Rattle.model.specs.declared.StunAgentBuilder.{StunAgentBuilder}
 use Rattle.model.specs.declared.Built.the-variants.{Refused, Fresh}
@@ -26,7 +26,7 @@ use Rattle.model.specs.declared.Answer.{Answer}
 use Rattle.model.proofs.Default.{build-refused, build-fresh}
 use Rattle.agent.specs.Ready.{worldOf}
 use Rattle.entry.proofs.Theorems.{as-model}
-use Rattle.runs.specs.Run.{said, run, sends, timeouts}
+use Rattle.runs.specs.Run.{said, sends, timeouts}
 use Rattle.runs.specs.Demand.{begins}
 use Rattle.runs.specs.Counts.{Exchange, exchange, history}
 use Rattle.hosted.specs.Session.{Owned, worldIn, Opens, Calls, Serves, rests, then-call, Session, startOf, AsModel, sights, sentIn, timedOutAt}
@@ -62,7 +62,6 @@ call-as-model o t a o′ c h =
     (record { agent = o′ .agent; answer = a }) (c .performed) h
 
 pub serves-as-model : {o o′ : Owned} {ts : List Turn} {l : List Answer} → Serves o ts l o′ → size ≤ length (o .table) → AsModel (worldIn o) ts l o′
-unfolding answers run
 serves-as-model rests h = record { answers-are = refl; world-is = refl; whole = h }
 serves-as-model (then-call {o} {o′} {o″} {t} {ts} {a} {l} c d) h =
     let z = call-as-model o t a o′ c h in
@@ -79,7 +78,7 @@ serves-as-model (then-call {o} {o′} {o″} {t} {ts} {a} {l} c d) h =
 -- ---- what the host saw
 
 sights-are : (rows : ℕ) (ts : List Turn) (w : World) → sights ts (answers rows w ts) ≡ history rows w ts
-unfolding answers history
+unfolding history
 sights-are rows [] w = refl
 sights-are rows (t ∷ ts) w = ap (λ (l : List Exchange). exchange rows w t ∷ l) (sights-are rows ts (said rows w t .world))
 

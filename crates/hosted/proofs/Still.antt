@@ -25,18 +25,19 @@ use Rattle.model.specs.Calls.{receives, Kind, carries}
 use Rattle.model.specs.Accepts.{isResponse, accepts}
 use Rattle.model.specs.Refusals.{CLOCK, PEERS-FULL, badClock, peersFull, holds, refusalOf}
 use Rattle.model.specs.Says.{saysOf}
-use Rattle.model.specs.Runs.{Turn}
+use Rattle.model.specs.Runs.{Turn, run}
 use Rattle.model.specs.declared.Answer.the-variants as answer
 use Rattle.model.proofs.Refused.{past-state}
 use Rattle.model.proofs.State.{state-exactly}
 use Rattle.model.proofs.Classes.{past-receives}
 use Rattle.model.proofs.Received.{accepted-yes}
-use Rattle.model.proofs.Below.{submission}
+use Rattle.request.proofs.Kept.{submission}
+use Rattle.model.proofs.Kept.{run-formed}
 use Rattle.model.proofs.Store.{RequestAccepted, request-accepted}
-use Rattle.runs.specs.Run.{kindIn, said, run, timeouts}
+use Rattle.runs.specs.Run.{kindIn, said, timeouts}
 use Rattle.runs.specs.Round.{Transmits, none-left, one-more, Polls, told-to-wait, one-report, round, Step, calls, Runs, ends, then-call, then-round}
 use Rattle.runs.specs.Demand.{Steady, LeftAlone, Start, begins, Submission, submits, Life}
-use Rattle.runs.proofs.Steady.{Ok, ok-said, next-ok, transmits-world, round-world, ok-transmits, ok-round, run-append, run-formed, Reaches, reaches}
+use Rattle.runs.proofs.Steady.{Ok, ok-said, next-ok, transmits-world, round-world, ok-transmits, ok-round, run-append, Reaches, reaches}
 use Rattle.runs.proofs.Spared.{others-spare}
 use Rattle.runs.proofs.One.{Loud}
 use Rattle.runs.proofs.Present.{Went, transmits-went, Outcome, stayed, timed, polls-outcome, timeouts-append, found-of}
@@ -63,7 +64,7 @@ module _ (rows x : ℕ) (tr : Transport) (set : RequestRto) where
       → LeftAlone rows x w ts
       → (last : ℕ) (r : StunRequestState) → requestOf (lookup x (w .requests)) ≡ some r → Loud last r → timeouts rows x w ts ≡ []
       → (q : StunRequestState) × (requestOf (lookup x (run rows w ts .requests)) ≡ some q)
-  unfolding timeouts run
+  unfolding timeouts
   still-there ends m o h n last r f q e = (r, f)
   still-there (then-call {w} {t} {ss} {ts} c d) m o h n last r f q e =
       let z = next-ok rows tr set m t w (λ u. Steady u ss) o h in
@@ -126,7 +127,7 @@ module _ (rows x : ℕ) (s : Start) (q : Submission) (pre post : List Step) (bef
   -- It is in the table while its timeout isn't reported.
   pub in-table : timeouts rows x (run rows (begins s) before) (submits q ∷ later) ≡ []
       → (y : StunRequestState) × (requestOf (lookup x (run rows (run rows (begins s) before) (submits q ∷ later) .requests)) ≡ some y)
-  unfolding run timeouts
+  unfolding timeouts
   in-table e =
       let ok =
       ok-said rows (s .transport) (s .rto) (reached .floor) (q .now) start (kindIn (submits q)) (q .bytes) (reached .ok) (reached .steady .0)

@@ -12,10 +12,10 @@ use native.Mathlib.Omega.{arith}
 use Rattle.stats.specs.declared.StunAgentStats.{StunAgentStats}
 use Rattle.model.specs.World.{World}
 use Rattle.model.specs.Says.{Said}
-use Rattle.model.specs.Runs.{Turn}
+use Rattle.model.specs.Runs.{Turn, run}
 use Rattle.model.specs.declared.StunAgentBuilder.{StunAgentBuilder}
 use Rattle.model.specs.declared.Answer.{Answer}
-use Rattle.runs.specs.Run.{said, run}
+use Rattle.runs.specs.Run.{said}
 use Rattle.runs.specs.Demand.{begins, Submission, submits, sendsOf, timeoutOf}
 use Rattle.runs.specs.Counts.{Exchange, exchange, history, NoReset}
 use Rattle.runs.specs.Conserved.{BelowStop, Conserved}

@@ -11,14 +11,14 @@ use Rattle.stats.specs.declared.StunAgentStats.{StunAgentStats}
 use Rattle.stats.specs.declared.Event.{Event}
 use Rattle.records.specs.Coding.{size}
 use Rattle.model.specs.World.{World}
-use Rattle.model.specs.Runs.{Turn, answers}
+use Rattle.model.specs.Runs.{Turn, answers, run}
 use Rattle.model.specs.declared.StunAgent.{StunAgent}
 use Rattle.model.specs.declared.StunAgentBuilder.{StunAgentBuilder}
 use Rattle.model.specs.declared.Built.the-variants.{Fresh}
 use Rattle.model.specs.declared.Answer.{Answer}
 use Rattle.agent.specs.Ready.{worldOf}
 use Rattle.entry.specs.Entry.{Performed, Started}
-use Rattle.runs.specs.Run.{kindIn, run, sendsBy, timeoutsBy}
+use Rattle.runs.specs.Run.{kindIn, sendsBy, timeoutsBy}
 use Rattle.runs.specs.Demand.{Start, Submission, submits}
 use Rattle.runs.specs.Counts.{Exchange, seen}
 use Rattle.runs.specs.Ends.{submitsIt}

@@ -29,11 +29,11 @@ use Rattle.model.proofs.Refused.{refused-same}
 use Rattle.model.proofs.Answers.{answer-number}
 use Rattle.model.proofs.Classes.{done, answer-receives}
 use Rattle.model.proofs.Store.{request-accepted}
+use Rattle.runs.specs.Answers.{isYes}
 use Rattle.runs.specs.Run.{kindIn, said, handsOut, answersTo, handles}
 use Rattle.runs.specs.Round as runs
 use Rattle.runs.specs.Round.{transmission, poll, isReport, Step, plays, Runs, Transmits, Polls}
 use Rattle.runs.specs.Demand.{LeftAlone, begins, Submission, submits, Life}
-use Rattle.runs.specs.Answers.{isYes}
 use Rattle.runs.specs.Counts.{exchange}
 use Rattle.runs.specs.Ends.{submitsIt, respondsTo}
 use Rattle.runs.proofs.Bytes.{passes, formed, is-x}

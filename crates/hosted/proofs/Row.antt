@@ -12,6 +12,7 @@ use Rattle.message.specs.Head.{key}
 use Rattle.message.specs.declared.TransactionId.{TransactionId}
 use Rattle.stats.specs.declared.StunAgentStats.{StunAgentStats}
 use Rattle.request.specs.declared.StunRequestState.{StunRequestState}
+use Rattle.request.proofs.Kept.{submission}
 use Rattle.requests.specs.Search.{keyOf, lookup, requestOf, placeOf}
 use Rattle.requests.specs.Scan.{walk}
 use Rattle.requests.specs.declared.Found.the-variants.{At}
@@ -27,7 +28,6 @@ use Rattle.model.specs.Parts.{transmissionOf}
 use Rattle.model.specs.Runs.{Turn, run}
 use Rattle.model.specs.declared.StunAgentBuilder.{StunAgentBuilder}
 use Rattle.model.specs.declared.Answer.the-variants as answer
-use Rattle.request.proofs.Kept.{submission}
 use Rattle.model.proofs.Answers.{answer-number, sends-out}
 use Rattle.model.proofs.Kept.{says-formed}
 use Rattle.model.proofs.Store.{request-accepted}

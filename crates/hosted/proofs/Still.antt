@@ -18,11 +18,12 @@ use Rattle.message.specs.declared.Parsed.the-variants.{Good}
 use Rattle.waits.specs.declared.RequestRto.{RequestRto}
 use Rattle.waits.specs.declared.Transport.{Transport}
 use Rattle.request.specs.declared.StunRequestState.{StunRequestState}
+use Rattle.request.proofs.Kept.{submission}
 use Rattle.requests.specs.Search.{lookup, requestOf}
 use Rattle.requests.specs.declared.Found.the-variants.{At}
 use Rattle.model.specs.World.{World, StateFormed}
 use Rattle.model.specs.Calls.{receives, Kind, carries}
-use Rattle.model.specs.Accepts.{isResponse, accepts}
+use Rattle.model.specs.Accepts.{isResponse}
 use Rattle.model.specs.Refusals.{CLOCK, PEERS-FULL, badClock, peersFull, holds, refusalOf}
 use Rattle.model.specs.Says.{saysOf}
 use Rattle.model.specs.Runs.{Turn, run}
@@ -30,8 +31,7 @@ use Rattle.model.specs.declared.Answer.the-variants as answer
 use Rattle.model.proofs.Refused.{past-state}
 use Rattle.model.proofs.State.{state-exactly}
 use Rattle.model.proofs.Classes.{past-receives}
-use Rattle.model.proofs.Received.{accepted-yes}
-use Rattle.request.proofs.Kept.{submission}
+use Rattle.model.proofs.Received.{answer-accepted, accepted-yes}
 use Rattle.model.proofs.Kept.{run-formed}
 use Rattle.model.proofs.Store.{RequestAccepted, request-accepted}
 use Rattle.runs.specs.Run.{kindIn, said, timeouts}
@@ -143,11 +143,6 @@ module _ (rows x : ℕ) (s : Start) (q : Submission) (pre post : List Step) (bef
 
 -- ---- a response
 
-accepts-found : (l : List StunRequestState) (from : Address) (y : Message) (i : ℕ) (r : StunRequestState) → isResponse (y .class) ≡ true
-    → lookup (key (y .«transaction_id»)) l ≡ At i r → accepts l from y ≡ true
-unfolding accepts
-accepts-found l from y i r e f = rw (e, f)
-
 module _ (rows x : ℕ) (w : World) (formed : StateFormed rows w) (r : StunRequestState) (found : requestOf (lookup x (w .requests)) ≡ some r) where
   taken : (k : Kind) (m : List ℕ) (from : Address) (clock : Option ℕ) (y : Message) → k ≡ carries (receives from clock) → messageOf m ≡ Good y
       → isResponse (y .class) ≡ true → key (y .«transaction_id») ≡ x → holds rows w k m CLOCK ≡ false → holds rows w k m PEERS-FULL ≡ false
@@ -160,7 +155,7 @@ module _ (rows x : ℕ) (w : World) (formed : StateFormed rows w) (r : StunReque
       let f = found-of (lookup x (w .requests)) found in
       let there : lookup (key (y .«transaction_id»)) (w .requests) ≡ At (f .0) r = ap (λ (n : ℕ). lookup n (w .requests)) named ∙ f .1 in
       ap (λ (j : Kind). saysOf rows w j m .answer) z
-      ∙ accepted-yes rows w from clock m y reads (accepts-found (w .requests) from y (f .0) r e there) passed
+      ∙ accepted-yes rows w from clock m y reads (answer-accepted (w .requests) from y e (At (f .0) r) there) passed
 
   pub response-accepted : (t : Turn) → Response x t → holds rows w (kindIn t) (t .bytes) CLOCK ≡ false
       → holds rows w (kindIn t) (t .bytes) PEERS-FULL ≡ false → said rows w t .answer ≡ answer.Yes

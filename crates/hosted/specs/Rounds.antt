@@ -15,11 +15,11 @@ use Rattle.model.specs.Runs.{Turn}
 use Rattle.model.specs.declared.StunAgentBuilder.{StunAgentBuilder}
 use Rattle.model.specs.declared.Answer.{Answer}
 use Rattle.model.specs.declared.Answer.the-variants as answer
+use Rattle.runs.specs.Answers.{isYes}
 use Rattle.runs.specs.Run.{kindIn, handsOut, alters}
 use Rattle.runs.specs.Round.{transmission, poll, isReport, Step, calls, plays, isScan}
 use Rattle.runs.specs.Times.{NoLater}
 use Rattle.runs.specs.Demand.{Steady, Submission, submits, most, Spaced}
-use Rattle.runs.specs.Answers.{isYes}
 use Rattle.runs.specs.Counts.{Exchange}
 use Rattle.runs.specs.Ends.{respondsTo}
 use Rattle.hosted.specs.Session.{Owned, sentIn, timedOutAt, Submitted}

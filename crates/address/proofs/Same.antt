@@ -6,7 +6,7 @@ use Prim.Native.Nat.{ℕ}
 use native.Mathlib.Omega.{arith}
 use lib.Dec.{eqb}
 use borrow.Author.Tests.{eq-eqb, eqb-true}
-use Rattle.address.specs.Address.{isV4, isV6, sameHost, sameAddress}
+use Rattle.address.specs.Address.{sameHost, sameAddress}
 use Rattle.address.specs.declared.Address.{Address}
 use Rattle.address.specs.declared.Host.{Host}
 use Rattle.address.specs.declared.Host.the-variants.{V4, V6}

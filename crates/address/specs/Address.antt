@@ -1,6 +1,6 @@
 -- When two addresses are equal (document 01, "Numbers"): the kind and every number are.
 use Prim.Native.Nat.{ℕ}
-use mathlib.Core.Bool.{Bool, true, false, _&&_}
+use mathlib.Core.Bool.{Bool, false, _&&_}
 use lib.Dec.{eqb}
 use Rattle.address.specs.declared.Address.{Address}
 use Rattle.address.specs.declared.Host.{Host}

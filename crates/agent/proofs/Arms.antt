@@ -20,14 +20,15 @@ use Rattle.records.specs.Coding.{width, size}
 use Rattle.records.specs.Live.{live}
 use Rattle.model.specs.World.{World, stateFormed, known}
 use Rattle.model.specs.Calls.{Kind, carries, names, meets, counts, submits, sends, receives, query, Meeting, Figure, kindOf, passageOf, addressOf, onSome}
+use Rattle.model.specs.Accepts.{newPeer}
 use Rattle.model.specs.Refusals.{isSubmitted, refusalOf, refusalPast}
 use Rattle.model.specs.Effects.{Change, keeps, onFound, wished, changeOf, answerOf, storedBy, after}
-use Rattle.model.specs.Says.{Said, decided, saysOf}
+use Rattle.model.specs.Says.{Said, decided}
 use Rattle.model.specs.declared.StunAgent.{StunAgent}
 use Rattle.model.specs.declared.Call.{Call}
 use Rattle.model.proofs.Refused.{bad-state-first, past-state}
-use Rattle.model.proofs.Classes.{change-sends, change-names, change-meets, change-counts}
-use Rattle.model.proofs.Store.{store-other}
+use Rattle.model.proofs.Classes.{leaves, agent-after, change-sends, change-names, change-meets, change-counts}
+use Rattle.model.proofs.Store.{stored-other}
 use Rattle.agent.specs.Ready.{worldOf, ready}
 use Rattle.agent.specs.Called as called-specs
 use Rattle.agent.specs.Called.{refusedWith, tried, effect, called, rowsAfter, TableAfter, unless, changePast, Acts, Turning, Counting, Carrying, Looking, Receiving, Submitting}
@@ -47,6 +48,10 @@ unless-keeps : (n : ℕ) (c : Change) → c ≡ keeps → unless n c ≡ keeps
 unless-keeps zero c e = e
 unless-keeps (suc n) c e = refl
 
+unless-stores : (n : ℕ) (c : Change) (store m : List ℕ) → storedBy 32 store m c ≡ store → store ≡ storedBy 32 store m (unless n c)
+unless-stores zero c store m e = sym e
+unless-stores (suc n) c store m e = refl
+
 query-keeps : (f : Found) → onFound f keeps (wished query) ≡ keeps
 query-keeps (At i r) = refl
 query-keeps Nothing = refl
@@ -64,13 +69,13 @@ module _ (a : StunAgent) (t store : List ℕ) (peers : List Address) (st : StunA
 
   holds-by : (n : ℕ) (t′ : List ℕ) → TableAfter (a .transport) (unless n (changeOf 32 w k m)) (a .requests) t t′
       → live (tried n a (effect 32 w k m) .agent .requests) t′ ≡ decided n w done .world .requests
-  unfolding after
-  holds-by zero t′ x = x .holds
+  holds-by zero t′ x =
+      ap (λ (y : StunAgent). live (y .requests) t′) (agent-after 32 w k m (changeOf 32 w k m) (newPeer w k m) refl refl)
+      ∙ (x .holds ∙ sym (leaves 32 w k m .requests))
   holds-by (suc n) t′ x = x .holds
 
   stores-by : (n : ℕ) → decided n w done .world .store ≡ storedBy 32 store m (unless n (changeOf 32 w k m))
-  unfolding after
-  stores-by zero = refl
+  stores-by zero = leaves 32 w k m .store
   stores-by (suc n) = refl
 
   refused-does : (n : ℕ) (r : Called) → refusalIn t w k m ≡ suc n → r ≡ refusedWith a (suc n) → Does w k m t t store r
@@ -124,10 +129,8 @@ module _ (a : StunAgent) (places : ℕ) (t store : List ℕ) (isKnown : Bool) (s
         }
 
     store-past : onSome (passageOf k) false isSubmitted ≡ false → store ≡ storedBy 32 store m (changePast 32 here k m)
-    unfolding saysOf changePast
-    store-past e =
-        sym (store-other 32 here m k e) ∙ stores-by a t store peers st k m (refusalOf 32 here k m)
-        ∙ ap (λ (n : ℕ). storedBy 32 store m (unless n (changeOf 32 here k m))) (past-state 32 here k m (good .1))
+    unfolding changePast
+    store-past e = unless-stores (refusalPast 32 here k m) (changeOf 32 here k m) store m (stored-other 32 here m k e)
 
     still : changeOf 32 here k m ≡ keeps → onSome (passageOf k) false isSubmitted ≡ false → r ≡ called 32 here k m → Does here k m t t store r
     unfolding changePast

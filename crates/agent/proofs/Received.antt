@@ -28,77 +28,24 @@ use Rattle.requests.specs.declared.Found.the-variants.{At, Nothing}
 use Rattle.requests.proofs.Lists.{neither, apart}
 use Rattle.requests.proofs.Search.{found-at, placed-within}
 use Rattle.records.specs.Live.{live}
-use Rattle.model.specs.World.{known}
-use Rattle.model.specs.Calls.{carries, receives, onSome}
+use Rattle.model.specs.World.{World, known}
+use Rattle.model.specs.Calls.{Kind, carries, receives, onSome}
 use Rattle.model.specs.Accepts.{newPeer, onMessage, isResponse, accepts}
 use Rattle.model.specs.Refusals.{refusalPast}
-use Rattle.model.specs.Effects.{Change, keeps, removes, answered, receivedAs, rttAt, yesOrNo, countAfter, changeOf, answerOf, eventOf, peerCount, after}
+use Rattle.model.specs.Effects.{Change, keeps, removes, answered, receivedAs, rttAt, yesOrNo, countAfter, changeOf, answerOf, eventBy}
 use Rattle.model.specs.declared.StunAgent.{StunAgent}
 use Rattle.model.specs.declared.Answer.the-variants as answer
+use Rattle.model.proofs.Classes.{past-receives, new-is, change-receives, answer-receives}
 use Rattle.model.proofs.Received.{plain-accepted, answer-accepted, plain-change, found-change, none-change}
 use Rattle.agent.specs.Ready.{worldOf, Lent}
-use Rattle.agent.specs.Called.{calledOf, refusedWith, tried, called, noted, unless, changePast, TableAfter, Acts, optionOf, isPast, markBy, rttBy, Timely}
+use Rattle.agent.specs.Called.{calledOf, refusedWith, noted, TableAfter, Acts, optionOf, isPast, markBy, rttBy, Timely}
 use Rattle.agent.specs.declared.Called.{Called}
 use Rattle.agent.specs.declared.Clock.{Clock}
 use Rattle.agent.specs.declared.Clock.the-variants as clock
 use Rattle.agent.specs.declared.Place.{Place}
 use Rattle.agent.specs.declared.Place.the-variants as place
-use Rattle.agent.proofs.Calls.{quiet, moved}
-use Rattle.agent.proofs.Table.{kept-same, table-by}
-
--- ---- the model's call, by its tests: `late` for the clock, `p` the message, `kn` who is a peer, `acc` what is accepted, `full` whether no place is left
-
-module _ (late : Bool) (p : Parsed) (kn : Address → Bool) (acc : Message → Bool) (ev : Message → Event) (ch : Message → Change) (full : Bool) (a : StunAgent) (from : Address) (mark : ℕ) where
-  abbrev joins : Option Address
-  joins = onSome (onMessage p none (λ x. cond (acc x) (some from) none)) none (λ b. cond (kn b) none (some b))
-
-  abbrev number : ℕ
-  number =
-      cond late 3 (cond (onMessage p true (λ x. false)) 5 (cond (onMessage p false (λ x. false)) 6 (cond (onSome joins false (λ b. full)) 10 0)))
-
-  abbrev hears : Called
-  hears =
-      tried number a
-      (calledOf (moved a mark (countAfter (onMessage p keeps ch) (a .requests)) (onSome joins (a .peers) (λ b. a .peers + 1))) (onMessage p answer.No (λ x. yesOrNo (acc x))) (noted a (onMessage p event.Nothing ev)) (onSome joins place.Nowhere (λ b. place.At (a .peers))))
-
-  abbrev turns : Change
-  turns = unless number (onMessage p keeps ch)
-
-  hears-late : late ≡ true → refusedWith a 3 ≡ hears
-  hears-late e = rw e
-
-  late-keeps : late ≡ true → turns ≡ keeps
-  late-keeps e = rw e
-
-  hears-bad : late ≡ false → p ≡ Bad → refusedWith a 5 ≡ hears
-  hears-bad e f = rw (e, f)
-
-  bad-keeps : late ≡ false → p ≡ Bad → turns ≡ keeps
-  bad-keeps e f = rw (e, f)
-
-  module _ (x : Message) (e : late ≡ false) (f : p ≡ Good x) where
-    hears-none : acc x ≡ false → ch x ≡ keeps → ev x ≡ event.Nothing → calledOf (moved a mark (a .requests) (a .peers)) answer.No event.Nothing place.Nowhere ≡ hears
-    hears-none g h i = rw (e, f, g, h, i, quiet (a .stats))
-
-    none-keeps : acc x ≡ false → ch x ≡ keeps → turns ≡ keeps
-    none-keeps g h = rw (e, f, g, h)
-
-    hears-full : acc x ≡ true → (k : Bool) → kn from ≡ k → (not k && full) ≡ true → refusedWith a 10 ≡ hears
-    hears-full g true h i = apart (sym i)
-    hears-full g false h i = rw (e, f, g, h, i)
-
-    full-keeps : acc x ≡ true → (k : Bool) → kn from ≡ k → (not k && full) ≡ true → turns ≡ keeps
-    full-keeps g true h i = apart (sym i)
-    full-keeps g false h i = rw (e, f, g, h, i)
-
-    hears-yes : acc x ≡ true → (k : Bool) → kn from ≡ k → (not k && full) ≡ false
-        → calledOf (moved a mark (countAfter (ch x) (a .requests)) (cond k (a .peers) (a .peers + 1))) answer.Yes (noted a (ev x)) (cond k place.Nowhere (place.At (a .peers))) ≡ hears
-    hears-yes g true h i = rw (e, f, g, h)
-    hears-yes g false h i = rw (e, f, g, h, i)
-
-    yes-turns : acc x ≡ true → (k : Bool) → kn from ≡ k → (not k && full) ≡ false → turns ≡ ch x
-    yes-turns g true h i = rw (e, f, g, h)
-    yes-turns g false h i = rw (e, f, g, h, i)
+use Rattle.agent.proofs.Model.{moved, quiet, refuses, performs}
+use Rattle.agent.proofs.Table.{kept-same}
 
 -- ---- what is counted, by the class and what was found
 
@@ -133,57 +80,75 @@ counted-as : (a next : StunAgent) (p : Place) (n len : ℕ) (r s : Rtt) (c : Mes
     → calledOf next answer.Yes e p ≡ calledOf next answer.Yes (noted a z) p
 counted-as a next p n len r s c f e z g h i j k = ap (λ (y : Event). calledOf next answer.Yes y p) (j ∙ ap (noted a) (i ∙ ap (λ (y : ℕ). receivedAs y r c) g ∙ ap (λ (y : Rtt). receivedAs len y c) h ∙ k))
 
+negated : (is full : Bool) → cond is false full ≡ (not is && full)
+negated true full = refl
+negated false full = refl
+
+-- A choice by the new peer, where it is known whether the sender is one already.
+by-new : {B : Type 0} (is : Bool) (from : Address) (b c : B) → onSome (cond is none (some from)) b (λ x. c) ≡ cond is b c
+by-new true from b c = refl
+by-new false from b c = refl
+
 module _ (a : StunAgent) (t : List ℕ) (from : Address) (is : Bool) (places : ℕ) (c : Clock) (m store : List ℕ) (peers : List Address) (st : StunAgentStats) (r : Called) (fits : length peers ≡ places) (k : known (worldOf a t store peers st) from ≡ is) where
+  abbrev w : World
+  w = worldOf a t store peers st
+
   abbrev reqs : List StunRequestState
   reqs = live (a .requests) t
 
-  abbrev Done : List ℕ → Type 0
-  Done t′ = Acts (worldOf a t store peers st) (carries (receives from (optionOf c))) m t t′ r
+  abbrev reception : Kind
+  reception = carries (receives from (optionOf c))
 
-  crowd : (b : Bool) → (not is && leb places (a .peers)) ≡ b → (not is && leb (length peers) (a .peers)) ≡ b
-  crowd b e = ap (λ (n : ℕ). not is && leb n (a .peers)) fits ∙ e
+  abbrev Done : List ℕ → Type 0
+  Done t′ = Acts w reception m t t′ r
 
   pub receives-late : isPast a c ≡ true → r ≡ refusedWith a 3 → Done t
-  unfolding called changePast refusalPast newPeer after changeOf peerCount answerOf eventOf
-  receives-late e f = record {
-    says = f ∙ hears-late (isPast a c) (messageOf m) (known (worldOf a t store peers st)) (accepts reqs from) (λ x. counts reqs from x (length m) (optionOf c)) (answered reqs from) (leb (length peers) (a .peers)) a from (markBy a c) e;
-    then = table-by (a .transport) (a .requests) t t _ keeps (late-keeps (isPast a c) (messageOf m) (known (worldOf a t store peers st)) (accepts reqs from) (λ x. counts reqs from x (length m) (optionOf c)) (answered reqs from) (leb (length peers) (a .peers)) a from (markBy a c) e) (kept-same (a .transport) (a .requests) t);
-  }
+  receives-late e f = refuses a t store peers st reception m r 2 (past-receives 32 w m from (optionOf c) ∙ rw e) f
 
   pub receives-bad : isPast a c ≡ false → messageOf m ≡ Bad → r ≡ refusedWith a 5 → Done t
-  unfolding called changePast refusalPast newPeer after changeOf peerCount answerOf eventOf
-  receives-bad e g f = record {
-    says = f ∙ hears-bad (isPast a c) (messageOf m) (known (worldOf a t store peers st)) (accepts reqs from) (λ x. counts reqs from x (length m) (optionOf c)) (answered reqs from) (leb (length peers) (a .peers)) a from (markBy a c) e g;
-    then = table-by (a .transport) (a .requests) t t _ keeps (bad-keeps (isPast a c) (messageOf m) (known (worldOf a t store peers st)) (accepts reqs from) (λ x. counts reqs from x (length m) (optionOf c)) (answered reqs from) (leb (length peers) (a .peers)) a from (markBy a c) e g) (kept-same (a .transport) (a .requests) t);
-  }
+  receives-bad e g f = refuses a t store peers st reception m r 4 (past-receives 32 w m from (optionOf c) ∙ rw (e, g)) f
 
   module _ (x : Message) (e : isPast a c ≡ false) (g : messageOf m ≡ Good x) where
+    nobody : accepts reqs from x ≡ false → newPeer w reception m ≡ none
+    nobody h = new-is 32 w reception m ∙ rw (g, h)
+
+    sender-new : accepts reqs from x ≡ true → newPeer w reception m ≡ cond is none (some from)
+    sender-new h = new-is 32 w reception m ∙ rw (g, h, k)
+
+    -- refusal 10, or none
+    number-is : accepts reqs from x ≡ true → (b : Bool) → (not is && leb places (a .peers)) ≡ b → refusalPast 32 w reception m ≡ cond b 10 0
+    number-is h b i =
+        past-receives 32 w m from (optionOf c)
+        ∙ rw (e, g, sender-new h, fits, by-new is from false (leb places (a .peers)), negated is (leb places (a .peers)), i)
+
+    change-is : (d : Change) → answered reqs from x ≡ d → changeOf 32 w reception m ≡ d
+    change-is d i = change-receives 32 w m from (optionOf c) ∙ (ap (λ (p : Parsed). onMessage p keeps (answered reqs from)) g ∙ i)
+
+    answer-is : (b : Bool) → accepts reqs from x ≡ b → answerOf 32 w reception m ≡ yesOrNo b
+    answer-is b h = answer-receives 32 w m from (optionOf c) ∙ rw (g, h)
+
+    event-by : eventBy w reception m ≡ counts reqs from x (length m) (optionOf c)
+    event-by = ap (λ (p : Parsed). onMessage p event.Nothing (λ y. counts reqs from y (length m) (optionOf c))) g
+
     refused-full : accepts reqs from x ≡ true → (not is && leb places (a .peers)) ≡ true → r ≡ refusedWith a 10 → Done t
-    unfolding called changePast refusalPast newPeer after changeOf peerCount answerOf eventOf
-    refused-full h i f = record {
-      says = f ∙ hears-full (isPast a c) (messageOf m) (known (worldOf a t store peers st)) (accepts reqs from) (λ x. counts reqs from x (length m) (optionOf c)) (answered reqs from) (leb (length peers) (a .peers)) a from (markBy a c) x e g h is k (crowd true i);
-      then = table-by (a .transport) (a .requests) t t _ keeps (full-keeps (isPast a c) (messageOf m) (known (worldOf a t store peers st)) (accepts reqs from) (λ x. counts reqs from x (length m) (optionOf c)) (answered reqs from) (leb (length peers) (a .peers)) a from (markBy a c) x e g h is k (crowd true i)) (kept-same (a .transport) (a .requests) t);
-    }
+    refused-full h i f = refuses a t store peers st reception m r 9 (number-is h true i) f
 
     accepted : (t′ : List ℕ) (d : Change) → accepts reqs from x ≡ true → answered reqs from x ≡ d → (not is && leb places (a .peers)) ≡ false → TableAfter (a .transport) d (a .requests) t t′
         → r ≡ calledOf (moved a (markBy a c) (countAfter d (a .requests)) (cond is (a .peers) (a .peers + 1))) answer.Yes (noted a (counts reqs from x (length m) (optionOf c))) (cond is place.Nowhere (place.At (a .peers))) → Done t′
-    unfolding called changePast refusalPast newPeer after changeOf peerCount answerOf eventOf
-    accepted t′ d h j i y f = record {
-      says =
-          f ∙ ap (λ (z : Change). calledOf (moved a (markBy a c) (countAfter z (a .requests)) (cond is (a .peers) (a .peers + 1))) answer.Yes (noted a (counts reqs from x (length m) (optionOf c))) (cond is place.Nowhere (place.At (a .peers)))) (sym j)
-          ∙ hears-yes (isPast a c) (messageOf m) (known (worldOf a t store peers st)) (accepts reqs from) (λ x. counts reqs from x (length m) (optionOf c)) (answered reqs from) (leb (length peers) (a .peers)) a from (markBy a c) x e g h is k (crowd false i);
-      then = table-by (a .transport) (a .requests) t t′ _ d (yes-turns (isPast a c) (messageOf m) (known (worldOf a t store peers st)) (accepts reqs from) (λ x. counts reqs from x (length m) (optionOf c)) (answered reqs from) (leb (length peers) (a .peers)) a from (markBy a c) x e g h is k (crowd false i) ∙ j) y;
-    }
+    accepted t′ d h j i y f =
+        performs a t store peers st reception m r t′ d answer.Yes (noted a (counts reqs from x (length m) (optionOf c))) (cond is none (some from))
+        (number-is h false i) (change-is d j) (answer-is true h) (ap (noted a) event-by) (sender-new h) y
+        (rw (by-new is from (a .peers) (a .peers + 1), by-new is from place.Nowhere (place.At (a .peers))) f)
 
     pub receives-none : isResponse (x .class) ≡ true → lookup (key (x .«transaction_id»)) reqs ≡ Nothing
         → (mark : ℕ) → mark ≡ markBy a c → r ≡ calledOf (moved a mark (a .requests) (a .peers)) answer.No event.Nothing place.Nowhere → Done t
-    unfolding called changePast refusalPast newPeer after changeOf peerCount answerOf eventOf
-    receives-none h i mark j f = record {
-      says =
-          f ∙ ap (λ (z : ℕ). calledOf (moved a z (a .requests) (a .peers)) answer.No event.Nothing place.Nowhere) j
-          ∙ hears-none (isPast a c) (messageOf m) (known (worldOf a t store peers st)) (accepts reqs from) (λ x. counts reqs from x (length m) (optionOf c)) (answered reqs from) (leb (length peers) (a .peers)) a from (markBy a c) x e g (answer-accepted reqs from x h Nothing i) (none-change reqs from x h i) (none-counts reqs from x (length m) (optionOf c) h i);
-      then = table-by (a .transport) (a .requests) t t _ keeps (none-keeps (isPast a c) (messageOf m) (known (worldOf a t store peers st)) (accepts reqs from) (λ x. counts reqs from x (length m) (optionOf c)) (answered reqs from) (leb (length peers) (a .peers)) a from (markBy a c) x e g (answer-accepted reqs from x h Nothing i) (none-change reqs from x h i)) (kept-same (a .transport) (a .requests) t);
-    }
+    receives-none h i mark j f =
+        let no = answer-accepted reqs from x h Nothing i in
+        performs a t store peers st reception m r t keeps answer.No event.Nothing none
+        (past-receives 32 w m from (optionOf c) ∙ rw (e, g, nobody no)) (change-is keeps (none-change reqs from x h i)) (answer-is false no)
+        (ap (noted a) (event-by ∙ none-counts reqs from x (length m) (optionOf c) h i) ∙ quiet (a .stats)) (nobody no)
+        (kept-same (a .transport) (a .requests) t)
+        (f ∙ ap (λ (z : ℕ). calledOf (moved a z (a .requests) (a .peers)) answer.No event.Nothing place.Nowhere) j)
 
     pub plain-full : isResponse (x .class) ≡ false → (not is && leb places (a .peers)) ≡ true → r ≡ refusedWith a 10 → Done t
     plain-full h i f = refused-full (plain-accepted reqs from x h) i f

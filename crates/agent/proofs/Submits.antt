@@ -1,9 +1,9 @@
 -- A law for each way through `send_request`.
 use Prim.Native.Nat.{ℕ, suc, _+_, _≤_, _<_}
-use mathlib.Core.Path.{_≡_, sym, ap, _∙_}
+use mathlib.Core.Path.{_≡_, refl, sym, ap, _∙_}
 use mathlib.Core.Bool.{Bool, true, false, cond, not}
 use mathlib.Core.List.{List}
-use mathlib.Core.Option.{Option, some}
+use mathlib.Core.Option.{Option, none, some}
 use native.Mathlib.Omega.{arith}
 use lib.Dec.{leb, ltb}
 use lib.ListN.{length}
@@ -34,21 +34,20 @@ use Rattle.requests.proofs.Free.{free-row, free-fewer, full-count}
 use Rattle.records.specs.Coding.{width, size, encode}
 use Rattle.records.specs.Live.{live, Became}
 use Rattle.records.proofs.Live.{length-live}
-use Rattle.model.specs.Calls.{carries, submits, onSome}
-use Rattle.model.specs.Accepts.{newPeer, onMessage, isFound, isOutstanding}
+use Rattle.model.specs.Calls.{Kind, carries, submits, onSome}
+use Rattle.model.specs.Accepts.{onMessage, isFound, isOutstanding}
 use Rattle.model.specs.Refusals.{isRequest, refusalPast}
-use Rattle.model.specs.Effects.{keeps, adds, handedOut, countAfter, newRequest, changeOf, answerOf, eventOf, storedBy, peerCount, after}
+use Rattle.model.specs.Effects.{keeps, adds, handedOut, newRequest, changeOf, answerOf, storedBy}
 use Rattle.model.specs.World.{World}
 use Rattle.model.specs.declared.StunAgent.{StunAgent}
 use Rattle.model.specs.declared.Answer.{Answer}
 use Rattle.model.specs.declared.Answer.the-variants as answer
-use Rattle.model.proofs.Classes.{past-submits}
+use Rattle.model.proofs.Classes.{past-submits, new-is, new-request, change-submits, answer-submits}
 use Rattle.agent.specs.Ready.{worldOf, Lent}
-use Rattle.agent.specs.Called.{calledOf, refusedWith, tried, called, noted, unless, changePast, TableAfter, Submits, isLate}
+use Rattle.agent.specs.Called.{calledOf, refusedWith, noted, TableAfter, Submits, isLate}
 use Rattle.agent.specs.declared.Called.{Called}
 use Rattle.agent.specs.declared.Place.the-variants.{Nowhere}
-use Rattle.agent.proofs.Calls.{moved}
-use Rattle.agent.proofs.Table.{kept-same, table-by}
+use Rattle.agent.proofs.Model.{moved, refused-keeps, done-changes, refuses, performs}
 
 -- ---- the number, by the tests: `late` for the clock, `long` for the length, `p` the message, `busy` which identifiers are outstanding,
 -- `full` whether no row is left
@@ -81,27 +80,6 @@ module _ (late long : Bool) (p : Parsed) (busy : Message → Bool) (full : Bool)
     number-none : isRequest (x .class) ≡ true → busy x ≡ false → full ≡ false → number late long p busy full ≡ 0
     number-none h i j = rw (e, f, g, h, i, j)
 
--- ---- what a number and a new request give
-
-module _ (n : ℕ) (new : Option StunRequestState) (a : StunAgent) (now len : ℕ) where
-  abbrev submission-says : Called
-  submission-says =
-      tried n a
-      (calledOf (moved a now (countAfter (onSome new keeps adds) (a .requests)) (a .peers)) (onSome new answer.None handedOut) (noted a (event.RequestSent len)) Nowhere)
-
-  says-refused : (k : ℕ) → n ≡ suc k → refusedWith a (suc k) ≡ submission-says
-  says-refused k e = rw e
-
-  says-sent : (q : StunRequestState) → n ≡ 0 → new ≡ some q
-      → calledOf (moved a now (a .requests + 1) (a .peers)) (handedOut q) (noted a (event.RequestSent len)) Nowhere ≡ submission-says
-  says-sent q e f = rw (e, f)
-
-  refused-keeps : (k : ℕ) → n ≡ suc k → unless n (onSome new keeps adds) ≡ keeps
-  refused-keeps k e = rw e
-
-  sent-adds : (q : StunRequestState) → n ≡ 0 → new ≡ some q → unless n (onSome new keeps adds) ≡ adds q
-  sent-adds q e f = rw (e, f)
-
 -- The answer and the event, as the code has them.
 sent-as : (a next : StunAgent) (q : StunRequestState) (len n : ℕ) (x : Answer) (e : Event) (r : Called)
     → n ≡ len → x ≡ handedOut q → e ≡ noted a (event.RequestSent n)
@@ -117,17 +95,14 @@ module _ (a : StunAgent) (t : List ℕ) (to : Address) (now : ℕ) (m store : Li
   abbrev w : World
   w = worldOf a t store peers st
 
-  refuses : (k : ℕ) → refusalPast 32 w (carries (submits to now)) m ≡ suc k → r ≡ refusedWith a (suc k) → Submits w to now m t t store r
-  unfolding called changePast newPeer after changeOf peerCount answerOf eventOf
-  refuses k e f =
-      let kept = refused-keeps (refusalPast 32 w (carries (submits to now)) m) (newRequest 32 w to now m) a now (length m) k e in
-      record {
-        acts = record {
-          says = f ∙ says-refused (refusalPast 32 w (carries (submits to now)) m) (newRequest 32 w to now m) a now (length m) k e;
-          then = table-by (a .transport) (a .requests) t t _ keeps kept (kept-same (a .transport) (a .requests) t);
-        };
-        stores = sym (ap (storedBy 32 store m) kept);
-      }
+  abbrev submission-of : Kind
+  submission-of = carries (submits to now)
+
+  turned-down : (n : ℕ) → refusalPast 32 w submission-of m ≡ suc n → r ≡ refusedWith a (suc n) → Submits w to now m t t store r
+  turned-down n e f = record {
+    acts = refuses a t store peers st submission-of m r n e f;
+    stores = sym (ap (storedBy 32 store m) (refused-keeps w submission-of m n e));
+  }
 
   abbrev busy : Message → Bool
   busy x = isOutstanding reqs (x .«transaction_id»)
@@ -135,48 +110,44 @@ module _ (a : StunAgent) (t : List ℕ) (to : Address) (now : ℕ) (m store : Li
   abbrev full : Bool
   full = leb 32 (length reqs)
 
-  numbered : refusalPast 32 w (carries (submits to now)) m ≡ number (isLate a now) (ltb 1024 (length m)) (messageOf m) busy full
+  numbered : refusalPast 32 w submission-of m ≡ number (isLate a now) (ltb 1024 (length m)) (messageOf m) busy full
   numbered = past-submits 32 w m to now
 
   pub submits-late : isLate a now ≡ true → r ≡ refusedWith a 3 → Submits w to now m t t store r
-  submits-late e = refuses 2 (numbered ∙ number-late _ (ltb 1024 (length m)) (messageOf m) busy full e)
+  submits-late e = turned-down 2 (numbered ∙ number-late _ (ltb 1024 (length m)) (messageOf m) busy full e)
 
   module _ (early : isLate a now ≡ false) where
     pub submits-long : 1024 < length m → r ≡ refusedWith a 4 → Submits w to now m t t store r
-    submits-long h = refuses 3 (numbered ∙ number-long _ _ (messageOf m) busy full early (lt-ltb 1024 (length m) h))
+    submits-long h = turned-down 3 (numbered ∙ number-long _ _ (messageOf m) busy full early (lt-ltb 1024 (length m) h))
 
     module _ (short : length m ≤ 1024) where
       in-row : ltb 1024 (length m) ≡ false
       in-row = le-ltb 1024 (length m) short
 
       pub submits-bad : messageOf m ≡ Bad → r ≡ refusedWith a 5 → Submits w to now m t t store r
-      submits-bad e = refuses 4 (numbered ∙ number-bad _ _ (messageOf m) busy full early in-row e)
+      submits-bad e = turned-down 4 (numbered ∙ number-bad _ _ (messageOf m) busy full early in-row e)
 
       module _ (x : Message) (reads : messageOf m ≡ Good x) where
         pub submits-class : isRequest (x .class) ≡ false → r ≡ refusedWith a 6 → Submits w to now m t t store r
-        submits-class e = refuses 5 (numbered ∙ number-class _ _ (messageOf m) busy full x early in-row reads e)
+        submits-class e = turned-down 5 (numbered ∙ number-class _ _ (messageOf m) busy full x early in-row reads e)
 
         module _ (class : isRequest (x .class) ≡ true) where
           pub submits-busy : (i : ℕ) (q : StunRequestState) → lookup (key (x .«transaction_id»)) reqs ≡ At i q → r ≡ refusedWith a 7
               → Submits w to now m t t store r
-          submits-busy i q e = refuses 6 (numbered ∙ number-busy _ _ (messageOf m) busy full x early in-row reads class (ap isFound e))
+          submits-busy i q e = turned-down 6 (numbered ∙ number-busy _ _ (messageOf m) busy full x early in-row reads class (ap isFound e))
 
           module _ (lent : Lent a t) (new : lookup (key (x .«transaction_id»)) reqs ≡ Nothing) where
             pub submits-full : freeRow 32 reqs ≡ Full → r ≡ refusedWith a 8 → Submits w to now m t t store r
             submits-full e =
                 let h = full-count 32 reqs (a .mark) (lent .requests .apart) (lent .requests .within) .0 e in
                 let none-left = le-leb 32 (length reqs) (omega arith) in
-                refuses 7 (numbered ∙ number-full _ _ (messageOf m) busy full x early in-row reads class (ap isFound new) none-left)
+                turned-down 7 (numbered ∙ number-full _ _ (messageOf m) busy full x early in-row reads class (ap isFound new) none-left)
 
             module _ (row : ℕ) (free : freeRow 32 reqs ≡ Row row) where
               abbrev theRequest : StunRequestState
               theRequest = submitted now (x .«transaction_id») (x .integrity) row (length m) to (a .rto)
 
-              new-is : newRequest 32 w to now m ≡ some theRequest
-              unfolding newRequest
-              new-is = rw (reads, free)
-
-              passes : refusalPast 32 w (carries (submits to now)) m ≡ 0
+              passes : refusalPast 32 w submission-of m ≡ 0
               passes =
                   let h = free-fewer 32 reqs (a .mark) (lent .requests .apart) (lent .requests .within) row free in
                   numbered ∙ number-none _ _ (messageOf m) busy full x early in-row reads class (ap isFound new) (lt-leb 32 (length reqs) h)
@@ -185,16 +156,17 @@ module _ (a : StunAgent) (t : List ℕ) (to : Address) (now : ℕ) (m store : Li
                   → TableAfter (a .transport) (adds q) (a .requests) t t′ → store′ ≡ copied 32 store (q .row) m
                   → r ≡ calledOf (moved a now (a .requests + 1) (a .peers)) (handedOut q) (noted a (event.RequestSent (length m))) Nowhere
                   → Submits w to now m t t′ store′ r
-              unfolding called changePast newPeer after changeOf peerCount answerOf eventOf
               sent t′ store′ q e y z f =
-                  let is = new-is ∙ ap some (sym e) in
-                  let put = sent-adds (refusalPast 32 w (carries (submits to now)) m) (newRequest 32 w to now m) a now (length m) q passes is in
+                  let that : newRequest 32 w to now m ≡ some q = new-request 32 w m to now row x reads free ∙ ap some (sym e) in
+                  let change-is : changeOf 32 w submission-of m ≡ adds q =
+                  change-submits 32 w m to now ∙ ap (λ (o : Option StunRequestState). onSome o keeps adds) that in
+                  let answer-is : answerOf 32 w submission-of m ≡ handedOut q =
+                  answer-submits 32 w m to now ∙ ap (λ (o : Option StunRequestState). onSome o answer.None handedOut) that in
                   record {
-                    acts = record {
-                      says = f ∙ says-sent (refusalPast 32 w (carries (submits to now)) m) (newRequest 32 w to now m) a now (length m) q passes is;
-                      then = table-by (a .transport) (a .requests) t t′ _ (adds q) put y;
-                    };
-                    stores = z ∙ sym (ap (storedBy 32 store m) put);
+                    acts =
+                        performs a t store peers st submission-of m r t′ (adds q) (handedOut q) (noted a (event.RequestSent (length m))) none passes change-is
+                        answer-is refl (new-is 32 w submission-of m) y f;
+                    stores = z ∙ sym (ap (storedBy 32 store m) (done-changes w submission-of m (adds q) passes change-is));
                   }
 
               pub submits-sent : (t′ store′ : List ℕ) (q : StunRequestState) (at n : ℕ) (y : Answer) (e : Event)

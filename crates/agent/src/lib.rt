@@ -31,7 +31,7 @@ use waits::LONGEST;
 use waits::RequestRto;
 use waits::Transport;
 ghost use mathlib.Core.Path.{_≡_};
-ghost use Rattle.model.specs.Calls.{ask, validate, numbers, mean, unsettled, anew, carries, scans, names, meets, counts, sends, receives, transmits, reports, silence, cancel, configure, query, shortForm};
+ghost use Rattle.model.specs.Calls.{ask, validate, numbers, mean, unsettled, anew, carries, scans, names, meets, counts, sends, transmits, reports, silence, cancel, configure, query, shortForm};
 ghost use Prim.Native.Nat.{_+_};
 ghost use mathlib.Core.Bool.{false, cond, not, _&&_};
 ghost use mathlib.Core.Option.{none, some};

@@ -11,7 +11,6 @@ use requests::Polled;
 use requests::Transmitted;
 use waits::RequestRto;
 use waits::Transport;
-ghost use mathlib.Core.Path.{_≡_};
 ghost use Prim.Native.Nat.{_≤_, _<_};
 ghost use lib.ListN.{length};
 ghost use Rattle.records.specs.Coding.{size};

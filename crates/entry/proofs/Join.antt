@@ -21,7 +21,8 @@ use Rattle.model.specs.Says.{Said, decided}
 use Rattle.model.specs.declared.StunAgent.{StunAgent}
 use Rattle.model.specs.declared.Answer.{Answer}
 use Rattle.model.specs.declared.Call.{Call}
-use Rattle.model.proofs.Peers.{peers-put}
+use Rattle.model.proofs.Classes.{leaves}
+use Rattle.model.proofs.Peers.{place-is, peers-put}
 use Rattle.agent.specs.Ready.{worldWith, worldOf}
 use Rattle.agent.specs.Called.{tried, effect, placeOf}
 use Rattle.agent.specs.Said.{refusalIn, saidIn, Does, nowhere, addressIn, Dispatched}
@@ -45,8 +46,7 @@ module _ (w : World) (k : Kind) (m : List ℕ) where
       × (counted (o .event) (w .stats) ≡ u .world .stats)
 
   index-is : indexOf (placeOf w k m) (length (w .peers)) ≡ peerPlace w k m
-  unfolding peerPlace
-  index-is = go (newPeer w k m)
+  index-is = go (newPeer w k m) ∙ sym (place-is w k m)
     where
       go : (o : Option Address)
           → indexOf (onSome o place.Nowhere (λ a. place.At (w .agent .peers))) (length (w .peers))
@@ -55,13 +55,11 @@ module _ (w : World) (k : Kind) (m : List ℕ) where
       go (some a) = refl
 
   peers-are : set (w .peers) (indexOf (placeOf w k m) (length (w .peers))) carried ≡ after 32 w k m .peers
-  unfolding after
-  peers-are = ap (λ (i : ℕ). set (w .peers) i carried) index-is ∙ sym (peers-put w k m nowhere)
+  peers-are = ap (λ (i : ℕ). set (w .peers) i carried) index-is ∙ sym (leaves 32 w k m .peers ∙ peers-put w k m nowhere)
 
   -- Whether the call is refused by n or, where n is 0, not at all.
   gives : (n : ℕ) → Gives (tried n (w .agent) (effect 32 w k m)) (decided n w (record { answer = answerOf 32 w k m; world = after 32 w k m }))
-  unfolding after
-  gives zero = (refl, refl, peers-are, refl)
+  gives zero = (refl, refl, peers-are, sym (leaves 32 w k m .stats))
   gives (suc n) = (refl, refl, set-out (w .peers) (length (w .peers)) carried (le-refl _), sym (nothing (w .stats)))
 
   given : (t t′ store′ : List ℕ) (o : Called) → Does w k m t t′ store′ o → Gives o (saidIn t w k m)

@@ -9,7 +9,6 @@ use mathlib.Core.Bool.{true, false}
 use mathlib.Core.List.{List, [], _∷_, _++_, append-assoc}
 use mathlib.Core.Option.{Option, some}
 use native.Mathlib.Omega.{arith}
-use lib.ListN.{length}
 use Rattle.address.specs.declared.Address.{Address}
 use Rattle.message.specs.Head.{key}
 use Rattle.message.specs.Attributes.{messageOf}
@@ -18,7 +17,6 @@ use Rattle.message.specs.declared.Parsed.the-variants.{Good}
 use Rattle.waits.specs.declared.RequestRto.{RequestRto}
 use Rattle.waits.specs.declared.Transport.{Transport}
 use Rattle.request.specs.declared.StunRequestState.{StunRequestState}
-use Rattle.request.proofs.Kept.{submission}
 use Rattle.requests.specs.Search.{lookup, requestOf}
 use Rattle.requests.specs.declared.Found.the-variants.{At}
 use Rattle.model.specs.World.{World, StateFormed}
@@ -33,15 +31,14 @@ use Rattle.model.proofs.State.{state-exactly}
 use Rattle.model.proofs.Classes.{past-receives}
 use Rattle.model.proofs.Received.{answer-accepted, accepted-yes}
 use Rattle.model.proofs.Kept.{run-formed}
-use Rattle.model.proofs.Store.{RequestAccepted, request-accepted}
 use Rattle.runs.specs.Run.{kindIn, said, timeouts}
-use Rattle.runs.specs.Round.{Transmits, none-left, one-more, Polls, told-to-wait, one-report, round, Step, calls, Runs, ends, then-call, then-round}
+use Rattle.runs.specs.Round.{Transmits, none-left, one-more, Polls, told-to-wait, one-report, round, Step, Runs, ends, then-call, then-round}
 use Rattle.runs.specs.Demand.{Steady, LeftAlone, Start, begins, Submission, submits, Life}
-use Rattle.runs.proofs.Steady.{Ok, ok-said, next-ok, transmits-world, round-world, ok-transmits, ok-round, run-append, Reaches, reaches}
+use Rattle.runs.proofs.Steady.{Ok, next-ok, transmits-world, round-world, ok-transmits, ok-round, run-append}
 use Rattle.runs.proofs.Spared.{others-spare}
 use Rattle.runs.proofs.One.{Loud}
 use Rattle.runs.proofs.Present.{Went, transmits-went, Outcome, stayed, timed, polls-outcome, timeouts-append, found-of}
-use Rattle.runs.proofs.Demand.{began-formed, fresh-ok, post-steady}
+use Rattle.runs.proofs.Demand.{entered, post-steady}
 use Rattle.hosted.specs.Unset.{Response}
 
 -- ---- a run
@@ -107,39 +104,17 @@ module _ (rows x : ℕ) (tr : Transport) (set : RequestRto) where
 
 module _ (rows x : ℕ) (s : Start) (q : Submission) (pre post : List Step) (before later : List Turn)
     (life : Life rows x s q pre post before later) where
-  abbrev start : World
-  start = run rows (begins s) before
-
-  reached : Reaches rows (s .transport) (s .rto) (calls (submits q) ∷ post) (run rows (begins s) before)
-  reached =
-      reaches (life .runs-before) (calls (submits q) ∷ post) 0
-      (fresh-ok rows s (began-formed rows s before (submits q) (λ e. omega (arith, life .accepted)))) (life .steady)
-
-  joined : RequestAccepted rows start (q .to) (q .now) (q .bytes) (said rows start (submits q))
-  joined = request-accepted rows start (q .to) (q .now) (q .bytes) (reached .ok .formed) (life .accepted)
-
-  loud : Loud (q .now) (joined .request)
-  loud =
-      let y = joined .message in
-      let b = submission (q .now) (y .«transaction_id») (y .integrity) (joined .row) (length (q .bytes)) (q .to) (start .agent .rto) in
-      rw (joined .request-is) (record { first = q .now; times = b .times-are; silent = b .not-silenced; dropped = b .not-cancelled })
-
   -- It is in the table while its timeout isn't reported.
   pub in-table : timeouts rows x (run rows (begins s) before) (submits q ∷ later) ≡ []
       → (y : StunRequestState) × (requestOf (lookup x (run rows (run rows (begins s) before) (submits q ∷ later) .requests)) ≡ some y)
   unfolding timeouts
   in-table e =
-      let ok =
-      ok-said rows (s .transport) (s .rto) (reached .floor) (q .now) start (kindIn (submits q)) (q .bytes) (reached .ok) (reached .steady .0)
-      (omega arith) in
-      let found : requestOf (lookup x (said rows start (submits q) .world .requests)) ≡ some (joined .request) =
-      ap (λ (n : ℕ). requestOf (lookup n (said rows start (submits q) .world .requests))) (sym (life .named (joined .message) (joined .reads)))
-      ∙ ap requestOf (joined .stands) in
-      still-there rows x (s .transport) (s .rto) (life .runs-later) (q .now) ok (post-steady rows x s q pre post before later life) (life .alone)
-      (q .now) (joined .request) found loud e
+      let new = entered rows x s q pre post before later life in
+      still-there rows x (s .transport) (s .rto) (life .runs-later) (q .now) (new .ok) (post-steady rows x s q pre post before later life)
+      (life .alone) (q .now) (new .request) (new .found) (new .loud) e
 
   pub stays-formed : StateFormed rows (run rows (run rows (begins s) before) (submits q ∷ later))
-  stays-formed = run-formed rows (submits q ∷ later) (run rows (begins s) before) (reached .ok .formed)
+  stays-formed = run-formed rows (submits q ∷ later) (run rows (begins s) before) (entered rows x s q pre post before later life .formed)
 
 -- ---- a response
 

@@ -1,12 +1,11 @@
 -- The class of a type: its two bits decide, and they are those that document 01 gives each class.
-use mathlib.Core.Path.{_≡_, refl, sym, _∙_}
+use mathlib.Core.Path.{_≡_, refl, sym}
 use mathlib.Core.Bool.{Bool, true, false, cond}
 use Prim.Native.Nat.{ℕ, _/_, _%_}
 use native.Mathlib.Omega.{arith}
 use lib.Dec.{eqb}
 use borrow.Author.Tests.{eq-eqb, ne-eqb, eqb-true, eqb-false}
 use Rattle.message.specs.Head.{classBits, bitsOf, classOf}
-use Rattle.message.specs.declared.MessageClass.{MessageClass}
 use Rattle.message.specs.declared.MessageClass.the-variants.{Request, Indication, Success, Error}
 
 -- One law for each of the four: bits C1 and C0.

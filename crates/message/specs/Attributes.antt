@@ -6,7 +6,6 @@ use lib.ListN.{length, drop}
 use lib.Dec.{leb, eqb}
 use Rattle.wire.specs.Wire.{be16}
 use Rattle.message.specs.Head.{headOf}
-use Rattle.message.specs.declared.MessageHeader.{MessageHeader}
 use Rattle.message.specs.declared.Head.{Head}
 use Rattle.message.specs.declared.Head.the-variants.{Good, Bad}
 use Rattle.message.specs.declared.Step.{Step}
@@ -15,7 +14,6 @@ use Rattle.message.specs.declared.Integrity.{Integrity}
 use Rattle.message.specs.declared.Integrity.the-variants.{None, Sha1, Sha256}
 use Rattle.message.specs.declared.Walk.{Walk}
 use Rattle.message.specs.declared.Walk.the-variants.{Whole, Cut}
-use Rattle.message.specs.declared.Message.{Message}
 use Rattle.message.specs.declared.Parsed.{Parsed}
 use Rattle.message.specs.declared.Parsed.the-variants.{Good as Read, Bad as Refused}
 
@@ -80,15 +78,11 @@ abbrev pub integrityFrom : Integrity → List Tlv → Integrity
 integrityFrom i [] = i
 integrityFrom i (t ∷ ts) = integrityFrom (later i (t .kind)) ts
 
--- Document 01: the integrity of a message is that of the last of the two types found on the walk over all attributes.
-abbrev pub integrityOf : List Tlv → Integrity
-integrityOf ts = integrityFrom None ts
-
 abbrev pub walkWith : Integrity → Attributes → Walk
 walkWith i (those ts) = Whole (integrityFrom i ts)
 walkWith i cut = Cut
 
--- The walk over all attributes of a message.
+-- Document 01: the integrity of a message is "the last of the two types found on the walk over all attributes".
 unfoldable pub walkOf : List ℕ → Walk
 walkOf s = walkWith None (attributesOf s)
 

@@ -1,7 +1,6 @@
 -- Answers read back.
---     answer-number                              a call's number is the one that it is refused by, and 0 where it isn't refused
---     sends-out                                  a transmission that `poll_transmit` answers is that of the request that the scan found
---     says-timed-out, says-cancelled, says-wait    the answers of `poll`, and what the scan found
+--     answer-number    a call's number is the one that it is refused by, and 0 where it isn't refused
+--     sends-out        a transmission that `poll_transmit` answers is that of the request that the scan found
 use Prim.Native.Nat.{ℕ, zero, suc}
 use mathlib.Core.Path.{_≡_, refl, ap, _∙_}
 use mathlib.Core.Bool.{Bool, true, false}
@@ -84,24 +83,9 @@ module _ (rows : ℕ) (w : World) (m : List ℕ) where
       go zero e = ap (λ (s : Said). numberIn (s .answer)) (passed-does rows w k m e) ∙ effect-number k
       go (suc n) e = ap (λ (s : Said). numberIn (s .answer)) (refused-same rows w k m n e)
 
--- ---- the two polls
+-- ---- `poll_transmit`
 
 pub sends-out : (o : Transmitted) (id : TransactionId) (to : Address) (row len : ℕ) → transmitAnswer o ≡ answer.Send id to row len
     → (r : StunRequestState) × (o ≡ Sends r) × (r .«transaction_id» ≡ id) × (r .to ≡ to) × (r .row ≡ row) × (r .len ≡ len)
 sends-out (Sends r) id to row len e = (r, refl, cc, cc, cc, cc)
 sends-out Quiet id to row len e = let z : _≡_ {A = ℕ} 0 1 = cc in absurd (omega arith)
-
-pub says-timed-out : (o : Polled) (id : TransactionId) → pollAnswer o ≡ answer.TimedOut id → (place : ℕ) × (o ≡ TimedOut place id)
-says-timed-out (TimedOut i x) id e = let z : x ≡ id = cc in (i, ap (TimedOut i) z)
-says-timed-out (Cancelled i x) id e = let z : _≡_ {A = ℕ} 0 1 = cc in absurd (omega arith)
-says-timed-out (WaitUntil clock) id e = let z : _≡_ {A = ℕ} 0 1 = cc in absurd (omega arith)
-
-pub says-cancelled : (o : Polled) (id : TransactionId) → pollAnswer o ≡ answer.Cancelled id → (place : ℕ) × (o ≡ Cancelled place id)
-says-cancelled (TimedOut i x) id e = let z : _≡_ {A = ℕ} 0 1 = cc in absurd (omega arith)
-says-cancelled (Cancelled i x) id e = let z : x ≡ id = cc in (i, ap (Cancelled i) z)
-says-cancelled (WaitUntil clock) id e = let z : _≡_ {A = ℕ} 0 1 = cc in absurd (omega arith)
-
-pub says-wait : (o : Polled) (clock : ℕ) → pollAnswer o ≡ answer.Wait clock → o ≡ WaitUntil clock
-says-wait (TimedOut i x) clock e = let z : _≡_ {A = ℕ} 0 1 = cc in absurd (omega arith)
-says-wait (Cancelled i x) clock e = let z : _≡_ {A = ℕ} 0 1 = cc in absurd (omega arith)
-says-wait (WaitUntil m) clock e = let z : m ≡ clock = cc in ap WaitUntil z

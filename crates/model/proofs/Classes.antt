@@ -4,31 +4,40 @@
 --     passed-formed                    where a call isn't refused, the world is well formed
 --     never-state                      no call in a well-formed world is refused by 1
 --     scan-passes                      the two polls in a well-formed world are refused by their clock alone
---     Done, done                       what a call that isn't refused answers and leaves
---     event-on                         its event, while statistics are on
+--     Done, leaves, done               what a call that isn't refused answers and leaves
+--     agent-after                      the agent that it leaves, by its change of the requests and the new peer
+--     event-is, event-on               its event; while statistics are on
+--     new-is                           the new peer
+--     new-request                      the request that a submission adds
 --     change-.., answer-..             its change of the requests and its answer, by its class
-use Prim.Native.Nat.{ℕ, _^_, _≤_}
+use Prim.Native.Nat.{ℕ, _+_, _^_, _≤_}
 use mathlib.Core.Path.{_≡_, refl, sym, ap, _∙_}
 use mathlib.Core.Bool.{true, false, cond, not}
 use mathlib.Core.List.{List}
-use mathlib.Core.Option.{Option}
+use mathlib.Core.Option.{Option, none, some}
+use lib.ListN.{length}
 use borrow.Author.Tests.{le-ltb, not-true, not-false}
 use Rattle.requests.proofs.Lists.{apart}
 use Rattle.address.specs.declared.Address.{Address}
 use Rattle.message.specs.Head.{key}
 use Rattle.message.specs.Attributes.{messageOf}
 use Rattle.message.specs.declared.TransactionId.{TransactionId}
+use Rattle.message.specs.declared.Message.{Message}
 use Rattle.message.specs.declared.Parsed.{Parsed}
 use Rattle.message.specs.declared.Parsed.the-variants.{Good, Bad}
 use Rattle.stats.specs.Count.{counted}
-use Rattle.requests.specs.Search.{lookup}
+use Rattle.stats.specs.declared.Event.the-variants as event
+use Rattle.request.specs.Request.{submitted}
+use Rattle.requests.specs.Search.{lookup, freeRow}
+use Rattle.requests.specs.declared.FreeRow.the-variants.{Row}
 use Rattle.requests.specs.Scan.{walk, pollAll}
-use Rattle.model.specs.World.{World, StateFormed, stateFormed}
+use Rattle.model.specs.World.{World, StateFormed, stateFormed, known}
 use Rattle.model.specs.Calls.{submits, sends, receives, Scan, transmits, reports, Wish, Meeting, Figure, Kind, carries, scans, names, meets, counts, onSome}
-use Rattle.model.specs.Accepts.{onMessage, newPeer}
+use Rattle.model.specs.Accepts.{onMessage, validated, newPeer}
 use Rattle.model.specs.Refusals.{badSettings, badClock, tooLong, badMessage, wrongClass, inProgress, tableFull, noRequest, peersFull, noStats, badCounts, refusalOf, refusalPast, STATE, numberOf}
-use Rattle.model.specs.Effects.{onFound, keeps, adds, steps, changed, newRequest, answered, reported, wished, changeOf, handedOut, passageAnswer, transmitAnswer, pollAnswer, wishAnswer, meetingAnswer, figureAnswer, answerOf, eventBy, eventOf, storedBy, peersAfter, after, agentAfter}
+use Rattle.model.specs.Effects.{onFound, Change, keeps, adds, steps, changed, newRequest, answered, reported, wished, changeOf, handedOut, passageAnswer, transmitAnswer, pollAnswer, wishAnswer, meetingAnswer, figureAnswer, answerOf, eventBy, eventOf, storedBy, peersAfter, peerCount, markAfter, countAfter, after, agentAfter}
 use Rattle.model.specs.Says.{Said, saysOf}
+use Rattle.model.specs.declared.StunAgent.{StunAgent}
 use Rattle.model.specs.declared.Answer.the-variants as answer
 use Rattle.model.proofs.Refused.{refused-exactly, passed-exactly, past-state, passed-does}
 use Rattle.model.proofs.State.{state-exactly}
@@ -99,6 +108,16 @@ scan-passes rows w s now m formed low high =
 
 -- ---- effects
 
+abbrev pub agentWith : World → Kind → Change → Option Address → StunAgent
+agentWith w k c p = record {
+  transport = w .agent .transport;
+  stats = w .agent .stats;
+  rto = w .agent .rto;
+  mark = markAfter w k;
+  requests = countAfter c (w .agent .requests);
+  peers = onSome p (w .agent .peers) (λ a. w .agent .peers + 1);
+}
+
 -- What a call that isn't refused answers and leaves.
 pub record Done (rows : ℕ) (w : World) (k : Kind) (m : List ℕ) (s : Said) : Type 0 where
   pub answer : s .answer ≡ answerOf rows w k m
@@ -109,9 +128,9 @@ pub record Done (rows : ℕ) (w : World) (k : Kind) (m : List ℕ) (s : Said) : 
   pub stats : s .world .stats ≡ counted (eventOf w k m) (w .stats)
 
 module _ (rows : ℕ) (w : World) (k : Kind) (m : List ℕ) where
-  does : Done rows w k m (record { answer = answerOf rows w k m; world = after rows w k m })
+  pub leaves : Done rows w k m (record { answer = answerOf rows w k m; world = after rows w k m })
   unfolding after
-  does = record {
+  leaves = record {
     answer = refl;
     agent = refl;
     requests = refl;
@@ -121,13 +140,29 @@ module _ (rows : ℕ) (w : World) (k : Kind) (m : List ℕ) where
   }
 
   pub done : refusalOf rows w k m ≡ 0 → Done rows w k m (saysOf rows w k m)
-  done e = rw (passed-does rows w k m e) does
+  done e = rw (passed-does rows w k m e) leaves
+
+  pub agent-after : (c : Change) (p : Option Address) → changeOf rows w k m ≡ c → newPeer w k m ≡ p → after rows w k m .agent ≡ agentWith w k c p
+  unfolding after peerCount
+  agent-after c p e f = rw (e, f)
+
+  pub event-is : eventOf w k m ≡ cond (w .agent .stats) (eventBy w k m) event.Nothing
+  unfolding eventOf
+  event-is = refl
 
   pub event-on : w .agent .stats ≡ true → eventOf w k m ≡ eventBy w k m
-  unfolding eventOf
-  event-on e = rw e
+  event-on e = event-is ∙ rw e
+
+  pub new-is : newPeer w k m ≡ onSome (validated w k m) none (λ a. cond (known w a) none (some a))
+  unfolding newPeer
+  new-is = refl
 
 module _ (rows : ℕ) (w : World) (m : List ℕ) where
+  pub new-request : (to : Address) (now row : ℕ) (x : Message) → messageOf m ≡ Good x → freeRow rows (w .requests) ≡ Row row
+      → newRequest rows w to now m ≡ some (submitted now (x .«transaction_id») (x .integrity) row (length m) to (w .agent .rto))
+  unfolding newRequest
+  new-request to now row x e f = rw (e, f)
+
   pub change-submits : (to : Address) (now : ℕ) → changeOf rows w (carries (submits to now)) m ≡ onSome (newRequest rows w to now m) keeps adds
   unfolding changeOf
   change-submits to now = refl

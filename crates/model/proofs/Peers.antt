@@ -2,7 +2,7 @@
 --     count-fits, length-peers    the count stays within the list, whose length no call changes
 --     peers-kept                  every other place is as it was
 --     peer-joined, peers-same     a new peer stands behind the last one; without a new one nothing changes
---     peers-put                   the same by the place that the call's address goes to
+--     place-is, peers-put         the same by the place that the call's address goes to
 --     says-peers                  of any call, refused or not
 use Prim.Native.Nat.{ℕ, zero, suc, _+_, _≤_}
 use mathlib.Core.Path.{_≡_, refl, sym}
@@ -84,6 +84,10 @@ module _ (w : World) (k : Kind) (m : List ℕ) where
       go : (o : Option Address) → onSome o none (λ b. cond (known w b) none (some b)) ≡ some a → o ≡ some a
       go none e = none-some e
       go (some b) e = choice (known w b) b e
+
+  pub place-is : peerPlace w k m ≡ onSome (newPeer w k m) (length (w .peers)) (λ a. w .agent .peers)
+  unfolding peerPlace
+  place-is = refl
 
   -- One store does it for every call: the call's address, or any other where it carries none, put at the place; the list's length is
   -- nowhere.

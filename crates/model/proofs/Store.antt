@@ -2,7 +2,7 @@
 --     part-of-found       the part handed out for an outstanding request is its row's
 --     part-refused, part-unused    no part where 1 would apply, nor of a row not in use or for another length
 --     request-accepted    an accepted `send_request`
---     store-other         any other call
+--     stored-other, store-other    any other call: its change leaves the store alone, refused or not
 use Prim.Native.Nat.{ℕ, zero, suc, _+_, _*_, _≤_, _<_}
 use mathlib.Core.Path.{_≡_, refl, sym, ap, _∙_, subst}
 use mathlib.Core.Bool.{Bool, true, false, cond, not, and-false}
@@ -203,7 +203,7 @@ module _ (rows : ℕ) (store m : List ℕ) where
   stored-wished query (At i r) = refl
 
 module _ (rows : ℕ) (w : World) (m : List ℕ) where
-  stored-other : (k : Kind) → onSome (passageOf k) false isSubmitted ≡ false → storedBy rows (w .store) m (changeOf rows w k m) ≡ w .store
+  pub stored-other : (k : Kind) → onSome (passageOf k) false isSubmitted ≡ false → storedBy rows (w .store) m (changeOf rows w k m) ≡ w .store
   unfolding changeOf
   stored-other (carries (submits to now)) e = apart e
   stored-other (carries (sends to)) e = refl

@@ -5,7 +5,6 @@ use libc::STDIN_FILENO;
 use libc::STDOUT_FILENO;
 use line::LONGEST_LINE;
 use replay::Standing;
-ghost use mathlib.Core.Path.{_≡_};
 ghost use Prim.Native.Nat.{_≤_};
 ghost use lib.ListN.{length};
 ghost use Rattle.records.specs.Coding.{size};

@@ -1,5 +1,5 @@
 -- What a body is: a law for each way through its reader.
-use mathlib.Core.Path.{_≡_, refl, sym, ap, _∙_}
+use mathlib.Core.Path.{_≡_, sym, _∙_}
 use mathlib.Core.List.{List}
 use Prim.Native.Nat.{ℕ, _+_, _≤_, _<_}
 use lib.ListN.{length, getD}
@@ -7,7 +7,7 @@ use lib.Dec.{eqb}
 use borrow.Author.Tests.{le-leb, lt-leb, eq-eqb, ne-eqb}
 use Rattle.wire.specs.Wire.{be16, be32, be64}
 use Rattle.message.specs.Head.{idAt}
-use Rattle.record.specs.Records.{rtoAt, transportOf, freeZero, addressAt, withAddress, settingsOf, timedOf, untimedOf, clockOf, namedOf, configureOf, peerOf, plainOf, bodyOf}
+use Rattle.record.specs.Records.{rtoAt, transportOf, freeZero, addressAt, settingsOf, timedOf, untimedOf, clockOf, namedOf, configureOf, peerOf, plainOf, bodyOf}
 use Rattle.message.specs.declared.TransactionId.{TransactionId}
 use Rattle.waits.specs.declared.RequestRto.{RequestRto}
 use Rattle.waits.specs.declared.Transport.{Transport}

@@ -8,7 +8,7 @@ use native.Mathlib.Numerals.{add-one, add-two, add-three, add-four, add-five}
 use native.Mathlib.Omega.{arith}
 use lib.Dec.{eqb}
 use lib.ListN.{length, take, drop, getD, set}
-use lib.Seq.{getD-take, getD-drop, sets-eq}
+use lib.Seq.{getD-take, getD-drop}
 use Rattle.rows.specs.Rows.{row, putAt}
 use Rattle.rows.proofs.Rows.{sets-put}
 use Rattle.address.specs.declared.Host.{Host}

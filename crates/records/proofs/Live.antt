@@ -7,9 +7,9 @@ use mathlib.Core.Path.{_≡_, sym, ap, _∙_}
 use mathlib.Core.List.{List, [], _∷_, map}
 use native.Mathlib.Omega.{arith}
 use native.Mathlib.Numerals.{add-one}
-use lib.ListN.{length, drop, set, length-map, length-set, drop-of-length-le}
+use lib.ListN.{length, drop, set, length-map, drop-of-length-le}
 use Rattle.rows.specs.Lists.{insertAt, removeAt}
-use Rattle.rows.specs.Rows.{row, rows, putAt, withRows}
+use Rattle.rows.specs.Rows.{row, rows, withRows}
 use Rattle.rows.proofs.Lists.{length-insertAt, length-removeAt, map-insertAt, map-removeAt, map-set, drop-map}
 use Rattle.rows.proofs.Rows.{Wide, rows-next, length-rows, rows-with, rows-put, drop-put, wide-rows, wide-insert, wide-remove, held}
 use Rattle.records.specs.Coding.{width, encode, decode, Put}

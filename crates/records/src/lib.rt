@@ -12,7 +12,7 @@ ghost use mathlib.Core.List.{_∷_, []};
 ghost use Prim.Native.Nat.{_+_, _%_, _≤_, _<_};
 ghost use lib.ListN.{length, getD};
 ghost use Rattle.rows.specs.Rows.{row, putAt};
-ghost use Rattle.records.specs.Coding.{width, size, wordsFrom, idBy, integrityCode, integrityBy, kindOf, hiOf, loOf, flowOf, scopeOf, LoFits, FlowFits, ScopeFits, hostBy, isSent, firstOf, lastOf, timesBy, bitOf, flagsOf, addressBy, rtoBy, encode, decode, Put};
+ghost use Rattle.records.specs.Coding.{width, size, wordsFrom, idBy, integrityCode, integrityBy, kindOf, hiOf, loOf, flowOf, scopeOf, LoFits, FlowFits, ScopeFits, hostBy, isSent, firstOf, lastOf, timesBy, bitOf, flagsOf, addressBy, rtoBy, decode, Put};
 
 // The words of a row.
 pub const WIDTH: usize = 18;

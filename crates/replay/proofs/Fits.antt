@@ -6,12 +6,12 @@ use Prim.Native.Nat.{ℕ, zero, suc, _+_, _-_, _≤_, _<_}
 use native.Mathlib.Nat.{sub-zero}
 use native.Mathlib.Numerals.{add-one}
 use native.Mathlib.Omega.{arith}
-use lib.ListN.{length, take, drop, set, replicate, length-set, length-drop, drop-of-length-le}
-use lib.Seq.{drop-drop, take-suc-set, take-all, length-take-le, append-snoc}
+use lib.ListN.{length, take, drop, set, replicate, length-drop, drop-of-length-le}
+use lib.Seq.{drop-drop, take-suc-set, take-all, length-take-le}
 use borrow.Author.Tests.{le-leb, lt-leb}
 use Rattle.line.specs.Lines.{Puts, lineOf}
 use Rattle.line.proofs.Putting.{put-fits, put-over, put-length}
-use Rattle.replay.specs.Runs.{Stand, Played, turnOf, stepsOf, firstStand, numbered, linesOf, fitting, Lined, Replays}
+use Rattle.replay.specs.Runs.{Stand, Played, turnOf, stepsOf, firstStand, linesOf, fitting, Lined, Replays}
 use Rattle.replay.proofs.Steps.{linesFrom, lines-none, lines-next, turn-goes}
 
 fit-over : (l : List ℕ) (ls : List (List ℕ)) (m : ℕ) → m < length l → fitting (l ∷ ls) m ≡ []

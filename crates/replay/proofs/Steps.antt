@@ -13,7 +13,7 @@ use Rattle.model.specs.declared.Built.the-variants.{Refused, Fresh}
 use Rattle.record.specs.Records.{recordOf}
 use Rattle.record.specs.declared.Record.{Record}
 use Rattle.record.specs.declared.Record.the-variants.{Settings, Whole, Bad as Broken}
-use Rattle.record.proofs.Frames.{Lies, fresh-lies, whole-lies}
+use Rattle.record.proofs.Frames.{fresh-lies, whole-lies}
 use Rattle.line.specs.Lines.{lineOf}
 use Rattle.replay.specs.Runs.{Stand, Played, Step, stop, made, stepped, turnBy, turnOf, stepOf, stepsIn, numbered}
 

@@ -34,7 +34,7 @@ use Rattle.record.specs.declared.Record.the-variants.{Settings, Whole, Bad as B
 use Rattle.line.specs.declared.Reply.{Reply}
 use Rattle.line.specs.declared.Reply.the-variants.{Told, Bad}
 use Rattle.replay.specs.Runs.{Stand, Played, noPeer, firstWorld, firstStand, stop, made, stepped, turnWith, turnBy, turnOf}
-use Rattle.replay.specs.Lent.{standOf, playedOf, turnIn, wordsBy, Plays, firstStanding, Begins}
+use Rattle.replay.specs.Lent.{standOf, playedOf, wordsBy, Plays, firstStanding, Begins}
 use Rattle.replay.specs.declared.Standing.{Standing}
 use Rattle.replay.specs.declared.Turn.{Turn}
 use Rattle.entry.specs.Entry.{Performed, answeredIn}

@@ -11,7 +11,7 @@ use Rattle.waits.specs.declared.Transport.{Transport}
 use Rattle.request.specs.Times.{isDue}
 use Rattle.request.specs.Request.{newRequest, submitted, steppedBy, stepped, silenced, cancelled, configured, transmitOf}
 use Rattle.request.specs.Answers.{recordAfter}
-use Rattle.request.specs.Kept.{SameRequest, SameSettings}
+use Rattle.request.specs.Kept.{SameRequest, SameSettings, SameTimes}
 use Rattle.request.proofs.Answers.{after-exactly}
 use Rattle.request.specs.declared.SendTimes.{SendTimes}
 use Rattle.request.specs.declared.SendTimes.the-variants.{Never, Sent}
@@ -82,6 +82,30 @@ module _ (r : StunRequestState) where
   pub same-configured : (rto : RequestRto) → SameRequest r (configured rto r)
   unfolding configured
   same-configured rto = record { id = refl; integrity = refl; row = refl; len = refl; to = refl }
+
+  pub times-silenced : SameTimes r (silenced r)
+  unfolding silenced
+  times-silenced = record { count = refl; times = refl }
+
+  pub times-cancelled : SameTimes r (cancelled r)
+  unfolding cancelled
+  times-cancelled = record { count = refl; times = refl }
+
+  pub times-configured : (rto : RequestRto) → SameTimes r (configured rto r)
+  unfolding configured
+  times-configured rto = record { count = refl; times = refl }
+
+  pub rto-silenced : silenced r .rto ≡ r .rto
+  unfolding silenced
+  rto-silenced = refl
+
+  pub rto-cancelled : cancelled r .rto ≡ r .rto
+  unfolding cancelled
+  rto-cancelled = refl
+
+  pub rto-configured : (rto : RequestRto) → configured rto r .rto ≡ rto
+  unfolding configured
+  rto-configured rto = refl
 
   module _ (now : ℕ) where
     stepped-by : (ts : SendTimes) → SameRequest r (steppedBy now r ts)

@@ -2,5 +2,6 @@
 mod Next
 pub mod Answers
 pub mod Steps
+pub mod Moments
 pub mod Kept
 pub mod Limits

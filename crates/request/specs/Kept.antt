@@ -1,4 +1,4 @@
--- What no call changes in a request: which one it is, where its bytes lie, and where they go.
+-- What each call keeps of a request: which one it is, where its bytes lie, and where they go; settings and marks; count and times.
 use mathlib.Core.Path.{_≡_}
 use Rattle.request.specs.declared.StunRequestState.{StunRequestState}
 
@@ -15,3 +15,8 @@ pub record SameSettings (r q : StunRequestState) : Type 0 where
   pub rto : q .rto ≡ r .rto
   pub recv : q .«recv_cancelled» ≡ r .«recv_cancelled»
   pub send : q .«send_cancelled» ≡ r .«send_cancelled»
+
+-- What the three changes by name keep: "keeps count and times".
+pub record SameTimes (r q : StunRequestState) : Type 0 where
+  pub count : q .«timeout_i» ≡ r .«timeout_i»
+  pub times : q .«send_times» ≡ r .«send_times»

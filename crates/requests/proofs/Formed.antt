@@ -1,5 +1,5 @@
 -- The test of the outstanding requests decides whether they are well formed.
---     ascending-exactly, different-exactly, within-exactly    each part of the test, and what it stands for
+--     ascending-exactly                                       the order of the identifiers
 --     formed-exactly                                          the whole
 --     too-many, out-of-order, row-twice, out-of-limits        one law for each clause that fails, whatever the others say
 --     all-but-within                                          the limits decide where the other clauses hold
@@ -44,9 +44,6 @@ different-holds : (l : List ℕ) → Different l → different l ≡ true
 different-holds [] d = refl
 different-holds (a ∷ l) d = rw (is-false (among a l) (d .0)) (different-holds l (d .1))
 
-pub different-exactly : (l : List ℕ) → (different l ≡ true) ↔ Different l
-different-exactly l = (different-says l, different-holds l)
-
 module _ (rows mark : ℕ) where
   within-says : (l : List StunRequestState) → allWithin rows mark l ≡ true → AllWithin rows mark l
   within-says [] e = tt
@@ -57,9 +54,6 @@ module _ (rows mark : ℕ) where
   within-holds : (l : List StunRequestState) → AllWithin rows mark l → allWithin rows mark l ≡ true
   within-holds [] w = refl
   within-holds (r ∷ rs) w = rw (within-limits rows mark r .1 (w .0)) (within-holds rs (w .1))
-
-  pub within-exactly : (l : List StunRequestState) → (allWithin rows mark l ≡ true) ↔ AllWithin rows mark l
-  within-exactly l = (within-says l, within-holds l)
 
   module _ (l : List StunRequestState) where
     formed-says : formed rows mark l ≡ true → Formed rows mark l

@@ -2,7 +2,7 @@
 --     found-exactly, found-placed, none-exactly     what `lookup` finds
 --     placed-found                                  in ascending order each request is found where it stands
 --     place-most, added-cons                        the place of a new request, and the list with it
---     keys-added, .., set-within                    order, rows and limits after `added`, `removeAt` and `set`
+--     rows-added, .., set-within                    order, rows and limits after `added`, `removeAt` and `set`
 --     lookup-added, .., lookup-set-other            looking after a change, for the same identifier and for another
 use Prim.Native.Nat.{ℕ, zero, suc, _≤_, _<_}
 use mathlib.Core.Path.{_≡_, refl, sym, ap, _∙_}
@@ -168,9 +168,6 @@ placed-found (suc i) r (q ∷ qs) s e = go (eqb (keyOf q) (keyOf r)) refl (place
 -- ---- what a change keeps
 
 module _ (r : StunRequestState) (l : List StunRequestState) where
-  pub keys-added : keysOf (added r l) ≡ insertAt (keysOf l) (placeOf (keyOf r) l) (keyOf r)
-  keys-added = map-insertAt keyOf l (placeOf (keyOf r) l) r
-
   pub rows-added : rowsOf (added r l) ≡ insertAt (rowsOf l) (placeOf (keyOf r) l) (rowOf r)
   rows-added = map-insertAt rowOf l (placeOf (keyOf r) l) r
 

@@ -4,7 +4,7 @@
 --     quiet-exactly, walk-quiet                        none goes out
 --     transmit-at, transmit-found, transmit-none       what it makes of the request at a place, or with an identifier
 --     scanned, scanned-found                           the same by the request that goes out: those up to it are passed by
---     loud-stays, loud-met, changes-exactly            of one that isn't silenced: that depends on the request and the clock
+--     loud-met, changes-exactly                        of one that isn't silenced: that depends on the request and the clock
 --     walk-by                                          the scan over other places that hold a request each
 use Prim.Native.Nat.{ℕ, zero, suc, _+_, _≤_, _<_}
 use mathlib.Core.Path.{_≡_, refl, sym, ap, _∙_, subst}
@@ -19,16 +19,14 @@ use borrow.Author.Tests.{eqb-false, le-leb, lt-leb}
 use Rattle.rows.specs.Lists.{among}
 use Rattle.message.specs.Head.{key}
 use Rattle.waits.specs.declared.Transport.{Transport}
-use Rattle.request.specs.Times.{isDue}
-use Rattle.request.specs.Request.{steppedBy, stepped, transmitOf}
+use Rattle.request.specs.Request.{stepped, transmitOf}
 use Rattle.request.specs.Answers.{goesOut, recordAfter}
 use Rattle.request.specs.Kept.{SameRequest}
-use Rattle.request.specs.declared.SendTimes.{SendTimes}
-use Rattle.request.specs.declared.SendTimes.the-variants.{Never, Sent}
 use Rattle.request.specs.declared.StunRequestState.{StunRequestState}
 use Rattle.request.specs.declared.StunRequestTransmit.{StunRequestTransmit}
 use Rattle.request.specs.declared.StunRequestTransmit.the-variants.{Rests, Passes, Goes}
 use Rattle.request.proofs.Kept.{same-itself, same-stepped, same-transmit}
+use Rattle.request.proofs.Moments.{goes-stepped, loud-stays, stepped-changes}
 use Rattle.request.proofs.Limits.{transmit-limits}
 use Rattle.request.specs.Limits.{RequestLimits}
 use Rattle.requests.specs.Search.{keyOf, keysOf, rowOf, rowsOf, lookup}
@@ -334,53 +332,18 @@ pub data MetLoud (t : Transport) (now : ℕ) (r : StunRequestState) : Transmitte
   other : {p : StunRequestState} → (keyOf p ≡ keyOf r → ⊥) → MetLoud t now r (Sends p) r
   none-goes : goesOut (transmitOf t now r) ≡ false → MetLoud t now r Quiet r
 
-module _ (t : Transport) (now : ℕ) (r : StunRequestState) where
-  pub goes-stepped : (p : StunRequestState) → transmitOf t now r ≡ Goes p → stepped now r ≡ p
-  unfolding transmitOf
-  goes-stepped p e = go (r .«recv_cancelled») (isDue t now r) (r .«send_cancelled») (stepped now r) e
+module _ (t : Transport) (now : ℕ) (r : StunRequestState) (loud : r .«send_cancelled» ≡ false) where
+  pub loud-met : {o : Transmitted} {q : StunRequestState} → Met t now r o q → MetLoud t now r o q
+  loud-met (sent {p} e) =
+      subst (λ (u : StunRequestState). MetLoud t now r (Sends u) u) (goes-stepped t now r p e) (goes (ap goesOut e))
+  loud-met (passed {o} e k) = rw (loud-stays t now r loud e) (go o k)
     where
-      go : (recv due send : Bool) (q : StunRequestState) → cond recv Rests (cond due (cond send (Passes q) (Goes q)) Rests) ≡ Goes p → q ≡ p
-      go true due send q e = let z : _≡_ {A = ℕ} 0 1 = cc in absurd (omega arith)
-      go false true true q e = let z : _≡_ {A = ℕ} 0 1 = cc in absurd (omega arith)
-      go false true false q e = cc
-      go false false send q e = let z : _≡_ {A = ℕ} 0 1 = cc in absurd (omega arith)
-
-  module _ (loud : r .«send_cancelled» ≡ false) where
-    pub loud-stays : goesOut (transmitOf t now r) ≡ false → passedBy t now r ≡ r
-    unfolding transmitOf
-    loud-stays e = go (r .«recv_cancelled») (isDue t now r) (r .«send_cancelled») (stepped now r) loud e
-      where
-        go : (recv due send : Bool) (q : StunRequestState) → send ≡ false
-            → goesOut (cond recv Rests (cond due (cond send (Passes q) (Goes q)) Rests)) ≡ false
-            → recordAfter r (cond recv Rests (cond due (cond send (Passes q) (Goes q)) Rests)) ≡ r
-        go true due send q f e = refl
-        go false true true q f e = apart f
-        go false true false q f e = apart e
-        go false false send q f e = refl
-
-    pub loud-met : {o : Transmitted} {q : StunRequestState} → Met t now r o q → MetLoud t now r o q
-    loud-met (sent {p} e) =
-        subst (λ (u : StunRequestState). MetLoud t now r (Sends u) u) (goes-stepped p e) (goes (ap goesOut e))
-    loud-met (passed {o} e k) = rw (loud-stays e) (go o k)
-      where
-        go : (o : Transmitted) → OtherKey (keyOf r) o → MetLoud t now r o r
-        go (Sends p) k = other k
-        go Quiet k = none-goes e
-    loud-met (unreached k) = other k
+      go : (o : Transmitted) → OtherKey (keyOf r) o → MetLoud t now r o r
+      go (Sends p) k = other k
+      go Quiet k = none-goes e
+  loud-met (unreached k) = other k
 
 -- it changes exactly when it is the one that goes out
-pub stepped-changes : (now : ℕ) (r : StunRequestState) → stepped now r ≡ r → ⊥
-unfolding stepped
-stepped-changes now r e = go (r .«send_times») refl e
-  where
-    go : (ts : SendTimes) → r .«send_times» ≡ ts → steppedBy now r ts ≡ r → ⊥
-    go Never f e =
-        let s : Sent now now ≡ r .«send_times» = ap (λ (q : StunRequestState). q .«send_times») e in
-        let z : _≡_ {A = ℕ} 0 1 = cc in omega arith
-    go (Sent first last) f e =
-        let s : r .«timeout_i» + 1 ≡ r .«timeout_i» = ap (λ (q : StunRequestState). q .«timeout_i») e in
-        omega arith
-
 pub changes-exactly : {t : Transport} {now : ℕ} {r q : StunRequestState} {o : Transmitted} → MetLoud t now r o q
     → (q ≡ r → ⊥) ↔ (o ≡ Sends (stepped now r))
 changes-exactly {t} {now} {r} (goes e) = (λ n. refl, λ s z. stepped-changes now r z)

@@ -1,5 +1,5 @@
 -- The two scans up the identifiers: document 01, "The agent".
-use Prim.Native.Nat.{ℕ, _+_, _*_, min}
+use Prim.Native.Nat.{ℕ, _+_, min}
 use mathlib.Core.List.{List, [], _∷_, _++_}
 use Rattle.waits.specs.Waits.{milliseconds}
 use Rattle.waits.specs.declared.Transport.{Transport}

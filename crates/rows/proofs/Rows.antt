@@ -1,7 +1,6 @@
 -- Words as rows, for rows of any width w and lists of any length.
 --     rows-next, length-rows, joined-rows    the rows one by one, how many, and put together again
 --     rows-put, drop-put, length-put         one row written
---     rows-past                              a store behind the rows
 --     put-put, sets-put                      stores side by side are one
 --     held                                   words from the rows that they hold and what is behind
 --     rows-with                              the rows of words that were made of rows
@@ -113,23 +112,6 @@ module _ (w : ℕ) where
       let k₂ : n * w ≤ length (drop w t) = rw length-drop (omega arith) in
       rw (take-put-le t (suc i * w) ws k₁ w (omega arith), d, put-behind w (i * w) t ws (omega arith))
       (ap (λ (r : List (List ℕ)). take w t ∷ r) (rows-put n i (drop w t) ws e (le-of-suc-le-suc h) k₂))
-
-  -- ---- a store behind the rows
-  same-front : (n : ℕ) (t t′ : List ℕ) → take (n * w) t ≡ take (n * w) t′ → n * w ≤ length t → n * w ≤ length t′ → rows w n t ≡ rows w n t′
-  same-front zero t t′ e h h′ = refl
-  same-front (suc n) t t′ e h h′ =
-      let a : suc n * w ≡ w + n * w = suc-mul n w ∙ add-comm (n * w) w in
-      let f : take w t ++ take (n * w) (drop w t) ≡ take w t′ ++ take (n * w) (drop w t′) = sym (take-add w (n * w) t) ∙ rw a at e ∙ take-add w (n * w) t′ in
-      let p : length (take w t) ≡ w = length-take-le w t (omega arith) in
-      let p′ : length (take w t′) ≡ w = length-take-le w t′ (omega arith) in
-      let g : take w t ≡ take w t′ = sym (take-at (take w t) _ w p) ∙ ap (take w) f ∙ take-at (take w t′) _ w p′ in
-      let d : take (n * w) (drop w t) ≡ take (n * w) (drop w t′) = sym (drop-at (take w t) _ w p) ∙ ap (drop w) f ∙ drop-at (take w t′) _ w p′ in
-      rw (g, same-front n (drop w t) (drop w t′) d (rw length-drop (omega arith)) (rw length-drop (omega arith)))
-
-  pub rows-past : (n : ℕ) (t : List ℕ) (b : ℕ) (ws : List ℕ) → n * w ≤ b → b + length ws ≤ length t → rows w n (putAt t b ws) ≡ rows w n t
-  rows-past n t b ws h k =
-      let e : length (putAt t b ws) ≡ length t = length-put t b ws k in
-      same-front n (putAt t b ws) t (take-put-le t b ws k (n * w) h) (omega arith) (omega arith)
 
   -- ---- words from the rows that they hold and what is behind
   pub held : (n : ℕ) (t t′ : List ℕ) (rs : List (List ℕ)) → rows w n t′ ≡ rs → drop (n * w) t′ ≡ drop (n * w) t → t′ ≡ withRows w t rs

@@ -2,6 +2,7 @@
 --     fit-formed, fresh-ok, fit-ok, fresh-never-bad     from fresh no call of a run with steady clocks is refused by 1 or 3
 --     unformed-run                  a world that isn't well formed refuses every call
 --     began-formed                  where a call isn't refused by 1, the agent began well formed
+--     Entered, entered              the request right after its submission
 --     closed-form                   the sends and the timeout of one run
 --     each-run                      what demand 3 says of it
 --     more-clocks, steady-rising    more rounds are more clocks, and they rise
@@ -106,6 +107,14 @@ waits-most Tcp set = omega arith
 
 -- ---- one run: its sends and its timeout in closed form
 
+-- The request right after its submission.
+pub record Entered (rows x : ℕ) (s : Start) (q : Submission) (before : List Turn) : Type 0 where
+  pub request : StunRequestState
+  pub formed : StateFormed rows (run rows (begins s) before)
+  pub ok : Ok rows (s .transport) (s .rto) (q .now) (said rows (run rows (begins s) before) (submits q) .world)
+  pub found : requestOf (lookup x (said rows (run rows (begins s) before) (submits q) .world .requests)) ≡ some request
+  pub loud : Loud (q .now) request
+
 module _ (rows x : ℕ) (s : Start) (q : Submission) (pre post : List Step) (before later : List Turn)
     (life : Life rows x s q pre post before later) where
   began : StateFormed rows (begins s)
@@ -153,6 +162,10 @@ module _ (rows x : ℕ) (s : Start) (q : Submission) (pre post : List Step) (bef
   found : requestOf (lookup x (then-is .requests)) ≡ some (joined .request)
   unfolding then-is
   found = ap requestOf (rw named at (joined .stands))
+
+  pub entered : Entered rows x s q before
+  unfolding then-is start
+  entered = record { request = joined .request; formed = reached .ok .formed; ok = then-ok; found = found; loud = new .loud }
 
   closed : Closed rows x then-is later (sendTimes (s .rto) (waitsOf (s .transport) (s .rto)) 0 (q .now) (rounds post))
       (listOf (endTime (s .transport) (s .rto) (waitsOf (s .transport) (s .rto)) 0 (q .now) (rounds post)))

@@ -27,7 +27,8 @@ use Rattle.request.specs.Answers.{ends, waitClock}
 use Rattle.request.specs.declared.StunRequestState.{StunRequestState}
 use Rattle.request.specs.declared.StunRequestPollRet.the-variants as poll-ret
 use Rattle.request.proofs.Answers.{goes-exactly, after-exactly, ends-exactly, wait-clock}
-use Rattle.request.proofs.Kept.{settings-transmit}
+use Rattle.request.proofs.Kept.{settings-transmit, rto-silenced, rto-cancelled, rto-configured}
+use Rattle.request.proofs.Moments.{ahead, Between, still-ahead}
 use Rattle.requests.specs.Search.{lookup}
 use Rattle.requests.specs.Scan.{hour, Walk, walk, pollAll}
 use Rattle.requests.specs.declared.Found.{Found}
@@ -59,7 +60,7 @@ use Rattle.runs.specs.Demand.{Steady, Start, begins}
 use Rattle.runs.specs.Last.{All, Positive, PositiveIf, NoZeroSet, NoSilentDue, Idle, LastSentence}
 use Rattle.runs.proofs.Steady.{Ok, ok-said, ok-transmits, ok-round, Reaches, reaches}
 use Rattle.runs.proofs.Spared.{scan-said}
-use Rattle.runs.proofs.Rests.{all-at, all-removed, all-set, all-added, all-walk, Rested, rested, Staying, staying, ahead, Between, still-ahead}
+use Rattle.runs.proofs.Rests.{all-at, all-removed, all-set, all-added, all-walk, Rested, rested, Staying, staying}
 use Rattle.runs.proofs.Demand.{fresh-ok, began-formed}
 
 -- ---- the two calls of a round
@@ -266,7 +267,6 @@ module _ (tr : Transport) (l : List StunRequestState) (h : All PositiveIn l) whe
 
   wish-positive : (id : TransactionId) (wish : Wish) → PositiveIf (wishSettings wish) → (f : Found) → lookup (key id) l ≡ f
       → All PositiveIn (changed tr (onFound f keeps (wished wish)) l)
-  unfolding silenced cancelled configured
   wish-positive id wish p Nothing e = h
   wish-positive id wish p (At i r) e = go wish p
     where
@@ -274,9 +274,9 @@ module _ (tr : Transport) (l : List StunRequestState) (h : All PositiveIn l) whe
       old = all-at PositiveIn l i r h (found-at (key id) i r l e .placed)
 
       go : (wish : Wish) → PositiveIf (wishSettings wish) → All PositiveIn (changed tr (wished wish i r) l)
-      go silence p = all-set PositiveIn l i (silenced r) old h
-      go cancel p = all-set PositiveIn l i (cancelled r) old h
-      go (configure rto) p = all-set PositiveIn l i (configured rto r) p h
+      go silence p = all-set PositiveIn l i (silenced r) (rw (rto-silenced r) old) h
+      go cancel p = all-set PositiveIn l i (cancelled r) (rw (rto-cancelled r) old) h
+      go (configure rto) p = all-set PositiveIn l i (configured rto r) (rw (rto-configured r rto) p) h
       go query p = h
 
 walked-positive : (tr : Transport) (now : ℕ) (r : StunRequestState) → PositiveIn r → PositiveIn (passedBy tr now r)

@@ -18,7 +18,7 @@ use native.Mathlib.Numerals.{add-one}
 use Rattle.waits.specs.Waits.{waitsOf, waitOf, finalWait}
 use Rattle.waits.specs.declared.RequestRto.{RequestRto}
 use Rattle.waits.specs.declared.Transport.{Transport}
-use Rattle.request.specs.Times.{passedAll, dueOf, endOf, isDue, isOver, momentOf}
+use Rattle.request.specs.Times.{isDue, isOver, momentOf}
 use Rattle.request.specs.Request.{stepped, transmitOf, pollOf}
 use Rattle.request.specs.Answers.{goesOut}
 use Rattle.request.specs.declared.SendTimes.the-variants.{Sent}
@@ -26,6 +26,7 @@ use Rattle.request.specs.declared.StunRequestState.{StunRequestState}
 use Rattle.request.specs.declared.StunRequestPollRet.the-variants.{WaitUntil, Cancelled, TimedOut}
 use Rattle.request.proofs.Answers.{goes-exactly}
 use Rattle.request.proofs.Steps.{step-again}
+use Rattle.request.proofs.Moments.{due-sent, over-sent, poll-loud}
 use Rattle.model.specs.Calls.{onSome}
 use Rattle.runs.specs.Times.{next, sendTimes, endTime}
 use Rattle.runs.proofs.Times.{From, next-from}
@@ -111,12 +112,10 @@ module _ (tr : Transport) (t last : ℕ) (r : StunRequestState) (q : Loud last r
 
   -- the two tests, over numbers
   due-is : isDue tr t r ≡ (not (leb (waitsOf tr (r .rto)) (r .«timeout_i»)) && leb (last + waitOf (r .rto) (r .«timeout_i»)) t)
-  unfolding isDue passedAll dueOf
-  due-is = rw (q .times)
+  due-is = due-sent tr t r (q .first) last (q .times)
 
   over-is : isOver tr t r ≡ (leb (waitsOf tr (r .rto)) (r .«timeout_i») && leb (last + finalWait tr (r .rto)) t)
-  unfolding isOver passedAll endOf
-  over-is = rw (q .times)
+  over-is = over-sent tr t r (q .first) last (q .times)
 
   record DueFacts : Type 0 where
     left : r .«timeout_i» < waitsOf tr (r .rto)
@@ -204,33 +203,25 @@ module _ (tr : Transport) (t last : ℕ) (r : StunRequestState) (q : Loud last r
             rw z (end-skip tr (r .rto) t ts (suc (waitsOf tr (r .rto) - suc (r .«timeout_i»))) (r .«timeout_i») last (h .1))
 
   -- what `poll` says of it
-  poll-is : (m : ℕ) → m ≡ max t (momentOf tr t r) → pollOf tr t r ≡ cond (isOver tr t r) TimedOut (WaitUntil m)
-  unfolding pollOf
-  poll-is m e = go (r .«recv_cancelled») (r .«send_cancelled») (q .dropped) (q .silent)
-    where
-      go : (d s : Bool) → d ≡ false → s ≡ false
-          → cond d Cancelled (cond (isOver tr t r) TimedOut (cond (s && passedAll tr r) Cancelled (WaitUntil (max t (momentOf tr t r)))))
-          ≡ cond (isOver tr t r) TimedOut (WaitUntil m)
-      go true s e f = absurd (false≢true (sym e))
-      go false true e f = absurd (false≢true (sym f))
-      go false false d f = rw e
+  poll-is : pollOf tr t r ≡ cond (isOver tr t r) TimedOut (WaitUntil (max t (momentOf tr t r)))
+  poll-is = poll-loud tr t r (q .silent) (q .dropped)
 
   pub timed-over : pollOf tr t r ≡ TimedOut → isOver tr t r ≡ true
-  timed-over e = go (isOver tr t r) (sym (poll-is _ refl) ∙ e)
+  timed-over e = go (isOver tr t r) (sym poll-is ∙ e)
     where
       go : (b : Bool) → cond b TimedOut (WaitUntil (max t (momentOf tr t r))) ≡ TimedOut → b ≡ true
       go true f = refl
       go false f = let z : _≡_ {A = ℕ} 0 1 = cc in absurd (omega arith)
 
   pub waits-over : (m : ℕ) → pollOf tr t r ≡ WaitUntil m → isOver tr t r ≡ false
-  waits-over m e = go (isOver tr t r) (sym (poll-is _ refl) ∙ e)
+  waits-over m e = go (isOver tr t r) (sym poll-is ∙ e)
     where
       go : (b : Bool) → cond b TimedOut (WaitUntil (max t (momentOf tr t r))) ≡ WaitUntil m → b ≡ false
       go true f = let z : _≡_ {A = ℕ} 0 1 = cc in absurd (omega arith)
       go false f = refl
 
   pub not-cancelled : pollOf tr t r ≡ Cancelled → ⊥
-  not-cancelled e = go (isOver tr t r) (sym (poll-is _ refl) ∙ e)
+  not-cancelled e = go (isOver tr t r) (sym poll-is ∙ e)
     where
       go : (b : Bool) → cond b TimedOut (WaitUntil (max t (momentOf tr t r))) ≡ Cancelled → ⊥
       go true f = let z : _≡_ {A = ℕ} 0 1 = cc in omega arith

@@ -6,30 +6,25 @@ use Prim.Native.Nat.{ℕ, zero, suc, _+_, _-_, _^_, _≤_, _<_, zero-le}
 use mathlib.Core.Path.{_≡_, refl, sym, ap, _∙_, subst}
 use mathlib.Core.Bool.{Bool, true, false, cond, not, _&&_}
 use mathlib.Core.List.{List, [], _∷_, _++_}
-use lib.Dec.{leb}
 use lib.ListN.{length}
-use borrow.Author.Tests.{leb-false}
 use native.Mathlib.Omega.{arith}
 use Rattle.rows.proofs.Lists.{length-removeAt}
-use Rattle.waits.specs.Waits.{waitsOf}
 use Rattle.waits.specs.declared.RequestRto.{RequestRto}
 use Rattle.waits.specs.declared.Transport.{Transport}
-use Rattle.request.specs.Times.{passedAll, dueOf, dueBy, isDue}
-use Rattle.request.specs.Request.{steppedBy, stepped, transmitOf}
+use Rattle.request.specs.Times.{isDue}
+use Rattle.request.specs.Request.{stepped, transmitOf}
 use Rattle.request.specs.Answers.{goesOut, recordAfter}
-use Rattle.request.specs.declared.SendTimes.{SendTimes}
-use Rattle.request.specs.declared.SendTimes.the-variants.{Never, Sent}
 use Rattle.request.specs.declared.StunRequestState.{StunRequestState}
 use Rattle.request.specs.declared.StunRequestTransmit.{StunRequestTransmit}
 use Rattle.request.specs.declared.StunRequestTransmit.the-variants.{Rests, Passes, Goes}
 use Rattle.request.proofs.Answers.{goes-exactly, after-exactly}
+use Rattle.request.proofs.Moments.{Steps, first-send, one-left, due-step, goes-stepped}
 use Rattle.requests.specs.Scan.{hour, meet, walk, pollAll}
 use Rattle.requests.specs.declared.Transmitted.{Transmitted}
 use Rattle.requests.specs.declared.Transmitted.the-variants.{Sends, Quiet}
 use Rattle.requests.specs.declared.Polled.{Polled}
 use Rattle.requests.specs.declared.Polled.the-variants.{TimedOut, Cancelled, WaitUntil}
 use Rattle.requests.proofs.Lists.{apart}
-use Rattle.requests.proofs.Transmits.{goes-stepped}
 use Rattle.requests.proofs.Polls.{Says, poll-says}
 use Rattle.model.specs.World.{World}
 use Rattle.model.specs.Effects.{changed, reported, transmitAnswer, pollAnswer}
@@ -37,7 +32,7 @@ use Rattle.model.specs.Runs.{Turn, run}
 use Rattle.model.specs.declared.Answer.the-variants as answer
 use Rattle.runs.specs.Run.{kindIn, said, handsOut}
 use Rattle.runs.specs.Round.{transmission, poll, isReport, Transmits, none-left, one-more, Polls, told-to-wait, one-report, Round, round, Step, calls, plays, isScan, Runs, ends, then-call, then-round}
-use Rattle.runs.specs.Play.{transmissionsIn, pollsIn, unsent, left, leftIn, transmissions, polls, roundOf, played}
+use Rattle.runs.specs.Play.{transmissionsIn, pollsIn, left, leftIn, transmissions, polls, roundOf, played}
 use Rattle.runs.specs.Demand.{Steady}
 use Rattle.runs.proofs.Steady.{Ok, next-ok, ok-transmits, ok-round, transmits-world, round-world}
 use Rattle.runs.proofs.Last.{the-scans}
@@ -67,16 +62,11 @@ round-unique {rows} {now} {b = b} {w} {u = u} (round {v} {ts = as′} {ps} c d) 
 
 module _ (tr : Transport) (now : ℕ) where
   step-less : (r : StunRequestState) → isDue tr now r ≡ true → left tr (stepped now r) < left tr r
-  unfolding isDue stepped passedAll
-  step-less r e = go (r .«send_times») e
+  step-less r e = go (due-step tr now r e)
     where
-      steps : (b : Bool) → leb (waitsOf tr (r .rto)) (r .«timeout_i») ≡ b → (c : Bool) → (not b && c) ≡ true → r .«timeout_i» < waitsOf tr (r .rto)
-      steps true e c f = apart (sym f)
-      steps false e c f = leb-false _ _ e
-
-      go : (ts : SendTimes) → dueBy tr now r ts ≡ true → left tr (steppedBy now r ts) < unsent ts + (waitsOf tr (r .rto) - r .«timeout_i»)
-      go Never e = omega arith
-      go (Sent first last) e = omega (arith, steps (leb (waitsOf tr (r .rto)) (r .«timeout_i»)) refl (leb (dueOf r last) now) e)
+      go : {q : StunRequestState} → Steps tr now r q → left tr q < left tr r
+      go (first-send f) = rw f (omega arith)
+      go (one-left f h) = rw f (omega arith)
 
   after-less : (r : StunRequestState) → left tr (recordAfter r (transmitOf tr now r)) ≤ left tr r
   after-less r = rw (after-exactly tr now r) (go (not (r .«recv_cancelled»)) (isDue tr now r) refl)

@@ -1,34 +1,30 @@
--- Requests after a round: what the transmissions and the polls of a round leave of each, and when its next moment is.
+-- Requests after a round: what the transmissions and the polls of a round leave of each.
 --     all-at, all-removed, all-set, all-added, all-walk     a property of each request, under the changes of the list
 --     wait-positive                  where neither initial nor maximum is zero, no wait is
 --     Rested, rested                 a request that a transmission has passed by isn't due, unless it is silent and has a wait of zero
 --     Staying, staying               one that a poll has passed by
---     ahead, still-ahead             its moment lies ahead, and until then it is neither due nor over
-use Prim.Native.Nat.{ℕ, zero, suc, _+_, _≤_, _<_, max}
+use Prim.Native.Nat.{ℕ, zero, suc, _<_, max}
 use mathlib.Core.Path.{_≡_, refl, sym, _∙_}
-use mathlib.Core.Bool.{Bool, true, false, cond, not, _&&_, _||_, and-false}
+use mathlib.Core.Bool.{Bool, true, false, cond, not, _&&_, _||_}
 use mathlib.Core.List.{List, [], _∷_}
 use mathlib.Core.Option.{some}
-use lib.Dec.{leb}
 use lib.ListN.{getElem?, set}
 use lib.Pow.{pow-pos}
-use borrow.Author.Tests.{leb-false, lt-leb}
 use native.Mathlib.Nat.{mul-pos}
 use native.Mathlib.Omega.{arith}
 use Rattle.rows.specs.Lists.{insertAt, removeAt}
 use Rattle.waits.specs.Waits.{waitOf}
 use Rattle.waits.specs.declared.RequestRto.{RequestRto}
 use Rattle.waits.specs.declared.Transport.{Transport}
-use Rattle.request.specs.Times.{passedAll, dueOf, endOf, dueBy, isDue, overBy, isOver, momentBy, momentOf}
-use Rattle.request.specs.Request.{withTimes, steppedBy, stepped, transmitOf, pollOf}
+use Rattle.request.specs.Times.{passedAll, isDue, isOver}
+use Rattle.request.specs.Request.{stepped, transmitOf, pollOf}
 use Rattle.request.specs.Kept.{SameSettings}
 use Rattle.request.specs.Answers.{goesOut, recordAfter, ends}
-use Rattle.request.specs.declared.SendTimes.{SendTimes}
-use Rattle.request.specs.declared.SendTimes.the-variants.{Never, Sent}
 use Rattle.request.specs.declared.StunRequestState.{StunRequestState}
 use Rattle.request.specs.declared.StunRequestTransmit.{StunRequestTransmit}
 use Rattle.request.specs.declared.StunRequestTransmit.the-variants.{Rests, Passes, Goes}
 use Rattle.request.proofs.Answers.{goes-exactly, after-exactly, ends-exactly}
+use Rattle.request.proofs.Moments.{step-not-due}
 use Rattle.request.proofs.Kept.{settings-stepped}
 use Rattle.requests.specs.Search.{keyOf, placeOf, added}
 use Rattle.requests.specs.Scan.{meet, walk}
@@ -81,18 +77,6 @@ pub record Rested (tr : Transport) (now : ℕ) (r : StunRequestState) : Type 0 w
   pub loud : r .«recv_cancelled» ≡ false → r .«send_cancelled» ≡ false → isDue tr now r ≡ false
   pub positive : r .«recv_cancelled» ≡ false → Positive (r .rto) → isDue tr now r ≡ false
 
-step-not-due : (tr : Transport) (now : ℕ) (r : StunRequestState) → Positive (r .rto) → isDue tr now (stepped now r) ≡ false
-unfolding isDue stepped dueOf
-step-not-due tr now r h = go (r .«send_times»)
-  where
-    late : (c : ℕ) (times : SendTimes) → (not (passedAll tr (withTimes c times r)) && leb (now + waitOf (r .rto) c) now) ≡ false
-    late c times =
-        rw (lt-leb (now + waitOf (r .rto) c) now (omega (arith, wait-positive (r .rto) c h))) (and-false (not (passedAll tr (withTimes c times r))))
-
-    go : (ts : SendTimes) → isDue tr now (steppedBy now r ts) ≡ false
-    go Never = late (r .«timeout_i») (Sent now now)
-    go (Sent first last) = late (r .«timeout_i» + 1) (Sent first now)
-
 pub rested : (tr : Transport) (now : ℕ) (r : StunRequestState) → goesOut (transmitOf tr now r) ≡ false → Rested tr now (passedBy tr now r)
 rested tr now r e =
     rw (after-exactly tr now r) (go (r .«recv_cancelled») refl (isDue tr now r) refl (r .«send_cancelled») refl (sym (goes-exactly tr now r) ∙ e))
@@ -105,7 +89,7 @@ rested tr now r e =
     go true f u g s k e = record { loud = λ z. apart (sym f ∙ z); positive = λ z. apart (sym f ∙ z) }
     go false f true g true k e = record {
       loud = λ z y. apart (sym k ∙ sym (same .send) ∙ y);
-      positive = λ z p. step-not-due tr now r (rw (same .rto) at p);
+      positive = λ z p. step-not-due tr now r (λ i. wait-positive (r .rto) i (rw (same .rto) at p));
     }
     go false f true g false k e = apart e
     go false f false g s k e = record { loud = λ z y. g; positive = λ z y. g }
@@ -122,36 +106,3 @@ staying tr now r e =
     let a = neither (r .«recv_cancelled») (isOver tr now r || (r .«send_cancelled» && passedAll tr r)) (sym (ends-exactly tr now r) ∙ e) in
     let b = neither (isOver tr now r) (r .«send_cancelled» && passedAll tr r) (a .1) in
     record { kept = a .0; waiting = b .0; steps = b .1 }
-
--- neither due nor over: its moment is to come
-pub ahead : (tr : Transport) (now : ℕ) (r : StunRequestState) → isDue tr now r ≡ false → isOver tr now r ≡ false → now < momentOf tr now r
-unfolding isDue isOver momentOf
-ahead tr now r d o = go (r .«send_times») d o
-  where
-    sent : (p : Bool) (due end : ℕ) → (not p && leb due now) ≡ false → (p && leb end now) ≡ false → now < cond p end due
-    sent true due end d o = leb-false end now o
-    sent false due end d o = leb-false due now d
-
-    go : (ts : SendTimes) → dueBy tr now r ts ≡ false → overBy tr now r ts ≡ false
-        → now < momentBy tr now r ts
-    go Never d o = apart d
-    go (Sent first last) d o = sent (passedAll tr r) (dueOf r last) (endOf tr r last) d o
-
--- and until then it is neither
-pub record Between (tr : Transport) (soon : ℕ) (r : StunRequestState) : Type 0 where
-  pub not-due : isDue tr soon r ≡ false
-  pub not-over : isOver tr soon r ≡ false
-
-pub still-ahead : (tr : Transport) (now soon : ℕ) (r : StunRequestState) → now ≤ soon → soon < max now (momentOf tr now r) → Between tr soon r
-unfolding isDue isOver momentOf passedAll dueOf endOf
-still-ahead tr now soon r l h = go (r .«send_times») refl h
-  where
-    sent : (p : Bool) (due end : ℕ) → soon < max now (cond p end due) → ((not p && leb due soon) ≡ false) × ((p && leb end soon) ≡ false)
-    sent true due end h = (refl, lt-leb end soon (omega arith))
-    sent false due end h = (lt-leb due soon (omega arith), refl)
-
-    go : (ts : SendTimes) → r .«send_times» ≡ ts → soon < max now (momentBy tr now r ts) → Between tr soon r
-    go Never e h = absurd (omega arith)
-    go (Sent first last) e h =
-        let z = sent (passedAll tr r) (dueOf r last) (endOf tr r last) h in
-        record { not-due = rw e (z .0); not-over = rw e (z .1) }

@@ -35,7 +35,9 @@ use Rattle.request.specs.Request.{stepped, silenced, cancelled, configured}
 use Rattle.request.specs.declared.SendTimes.the-variants.{Sent}
 use Rattle.request.proofs.Steps.{step-again}
 use Rattle.request.proofs.Answers.{after-exactly}
-use Rattle.request.proofs.Kept.{submission}
+use Rattle.request.proofs.Kept.{submission, times-silenced, times-cancelled, times-configured}
+use Rattle.request.proofs.Moments.{rtt-sent}
+use Rattle.request.specs.Kept.{SameTimes}
 use Rattle.request.specs.declared.StunRequestState.{StunRequestState}
 use Rattle.requests.specs.Search.{lookup, requestOf}
 use Rattle.requests.specs.Scan.{walk, pollAll}
@@ -252,16 +254,17 @@ timed-stepped c n now r t =
       unstepped = λ z. absurd (omega arith);
     })
 
+timed-kept : (c n : ℕ) (r q : StunRequestState) → SameTimes r q → Timed c n r → Timed c n q
+timed-kept c n r q s t = record { last = t .last; times = s .times ∙ t .times; count = s .count ∙ t .count; unstepped = t .unstepped }
+
 timed-wished : (c n : ℕ) (r : StunRequestState) → Timed c n r → (wish : Wish) → Timed c n (wishedOf wish r)
-unfolding silenced cancelled configured
-timed-wished c n r t silence = record { last = t .last; times = t .times; count = t .count; unstepped = t .unstepped }
-timed-wished c n r t cancel = record { last = t .last; times = t .times; count = t .count; unstepped = t .unstepped }
-timed-wished c n r t (configure rto) = record { last = t .last; times = t .times; count = t .count; unstepped = t .unstepped }
+timed-wished c n r t silence = timed-kept c n r (silenced r) (times-silenced r) t
+timed-wished c n r t cancel = timed-kept c n r (cancelled r) (times-cancelled r) t
+timed-wished c n r t (configure rto) = timed-kept c n r (configured rto r) (times-configured r rto) t
 timed-wished c n r t query = t
 
 timed-rtt : (c n : ℕ) (r : StunRequestState) → Timed c n r → (now : ℕ) → rttOf now r ≡ cond (eqb n 0) (Nanos (now - c)) Absent
-unfolding rttOf
-timed-rtt c n r t now = rw (t .times, t .count) (go (eqb n 0) refl)
+timed-rtt c n r t now = rtt-sent now c (t .last) r (t .times) ∙ rw (t .count) (go (eqb n 0) refl)
   where
     go : (b : Bool) → eqb n 0 ≡ b → cond b (Nanos (now - t .last)) Absent ≡ cond b (Nanos (now - c)) Absent
     go true b = rw (t .unstepped (eqb-true n 0 b))

@@ -11,7 +11,6 @@ use Rattle.message.specs.declared.MessageClass.{MessageClass}
 use Rattle.message.specs.declared.MessageClass.the-variants.{Request, Indication, Success, Error}
 use Rattle.message.specs.declared.Integrity.{Integrity}
 use Rattle.message.specs.declared.Integrity.the-variants.{None, Sha1, Sha256}
-use Rattle.message.specs.declared.Message.{Message}
 use Rattle.message.specs.declared.Parsed.{Parsed}
 use Rattle.message.specs.declared.Parsed.the-variants.{Good, Bad}
 use Rattle.waits.specs.Waits.{milliseconds, defaultRto, withinLimits, waitsOf, waitOf, finalWait}

@@ -5,7 +5,6 @@ use message::Integrity;
 use message::Message;
 use message::MessageClass;
 use message::Parsed;
-ghost use mathlib.Core.Path.{_≡_};
 ghost use Prim.Native.Nat.{_≤_};
 ghost use lib.ListN.{length};
 

@@ -2,7 +2,7 @@
 --     below, digits, by-digits two numbers of two digits, to any base
 --     same-ltb, same-eqb       two tests that hold together are one Bool
 --     order, spelled-once      byte strings of one length: by the first differing byte; equal only where their numbers are
-use Prim.Native.Nat.{ℕ, zero, suc, _+_, _*_, _^_, _≤_, _<_}
+use Prim.Native.Nat.{ℕ, suc, _+_, _*_, _^_, _≤_, _<_}
 use mathlib.Core.Path.{_≡_, refl, sym, ap, ap₂, _∙_}
 use mathlib.Core.Bool.{Bool, true, false, cond}
 use mathlib.Core.List.{List, [], _∷_}

@@ -1,12 +1,11 @@
 -- The readers' numbers are those that the bytes spell.
 --     spelled-join                    a string cut in two
 --     spells16, spells32, spells64    the number at a place is spelled by the 2, 4 or 8 bytes there
-use Prim.Native.Nat.{ℕ, zero, suc, _+_, _*_, _^_, _≤_, _<_}
-use mathlib.Core.Path.{_≡_, refl, sym, ap, ap₂, _∙_}
+use Prim.Native.Nat.{ℕ, _+_, _*_, _^_, _≤_, _<_}
+use mathlib.Core.Path.{_≡_, sym, ap, ap₂, _∙_}
 use mathlib.Core.List.{List, [], _∷_, _++_}
 use native.Mathlib.Nat.{add-mul, mul-assoc, add-assoc}
 use lib.Pow.{pow-add}
-use native.Mathlib.Numerals.{add-one}
 use native.Mathlib.Omega.{arith}
 use lib.ListN.{length, getD, take, drop, length-append, length-drop}
 use lib.Seq.{drop-cons, take-add, drop-drop, length-take-le}

@@ -6,6 +6,7 @@ use std::collections::BTreeMap;
 use std::net::{Ipv4Addr, Ipv6Addr, SocketAddr, SocketAddrV4, SocketAddrV6};
 use std::time::Duration;
 use stun_proto::agent::{StunAgent, StunAgentPollRet, StunError, StunRequestMut, Transmit};
+use stun_proto::stats::StunAgentStats;
 use stun_proto::Instant;
 use stun_types::message::{IntegrityAlgorithm, Message, TransactionId};
 use stun_types::TransportType;
@@ -13,7 +14,8 @@ use stun_types::TransportType;
 /// The agent's own address; no line shows it, every transmission must come from it.
 const LOCAL: SocketAddr = SocketAddr::V4(SocketAddrV4::new(Ipv4Addr::new(192, 0, 2, 200), 40_000));
 
-/// The Rust agent; with CHECKED, each transmission is held against what was submitted.
+/// The Rust agent; with CHECKED, what no line shows is held against what the port is proved to answer: each
+/// transmission, the query's address, the average and the outstanding count.
 pub struct RustAgent<const CHECKED: bool> {
     agent: StunAgent,
     /// Bytes and address of every request that was sent, by identifier; nothing unless CHECKED.
@@ -53,7 +55,12 @@ impl<const CHECKED: bool> RustAgent<CHECKED> {
                 self.agent.validated_peer(socket(address));
                 Answer::Ok
             }
-            Record::Statistics => self.agent.stats().map_or(Answer::Refused(11), debug_text::statistics),
+            Record::Statistics => self.agent.stats().map_or(Answer::Refused(11), |statistics| {
+                if CHECKED {
+                    check_figures(statistics);
+                }
+                debug_text::statistics(statistics)
+            }),
             Record::Reset => self.agent.stats_mut().map_or(Answer::Refused(11), |statistics| {
                 statistics.reset();
                 Answer::Ok
@@ -159,6 +166,19 @@ fn check<T: AsRef<[u8]>>(transmit: &Transmit<T>, transport: TransportType, messa
     assert_eq!(transmit.data.as_ref(), message, "the transmission's bytes");
     assert_eq!(transmit.to, to, "the transmission's address");
     assert_eq!((transmit.from, transmit.transport), (LOCAL, transport), "the transmission's sender");
+}
+
+/// Panics unless the two figures that no record asks for are what the port is proved to answer, of the same record:
+/// "floor of sum by count; none without samples", and requests sent less those answered, timed out and cancelled.
+/// Below zero, which is document 01's number 12, the Rust has no answer.
+fn check_figures(statistics: &StunAgentStats) {
+    let Answer::Stats(fields) = debug_text::statistics(statistics) else { unreachable!() };
+    let [sent, _, _, answered, _, _, timed_out, cancelled, _, _, sum, _, _, count] = fields.map(Option::unwrap_or_default);
+    let average = (count > 0).then(|| Duration::from_nanos(sum / count));
+    assert_eq!(statistics.rtt_average(), average, "the average");
+    if let Some(outstanding) = sent.checked_sub(answered + timed_out + cancelled) {
+        assert_eq!(statistics.outstanding_requests(), outstanding, "the outstanding count");
+    }
 }
 
 /// The identifier in a message.

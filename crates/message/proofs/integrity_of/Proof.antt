@@ -1,14 +1,13 @@
 -- `message::integrity_of` meets its contract. The loop's invariant: what has been found so far, with the walk from this place on, makes
 -- the walk over all. The measure is what is left of the message. Assumes nothing.
 use borrow.Author.Needs.{needs}
-use mathlib.Core.Path.{_≡_, refl, sym, _∙_, ap}
+use mathlib.Core.Path.{_≡_, refl, sym, _∙_}
 use mathlib.Core.Logic.{⊎-elim}
-use Prim.Native.Nat.{ℕ, _≤_, _<_, _-_}
+use Prim.Native.Nat.{ℕ, _-_}
 use native.Mathlib.Omega.{arith}
 use lib.ListN.{length, drop}
 use denote.Ref.{now}
 use Rattle.message.specs.Attributes.{attributesFrom, walkWith, walkOf}
-use Rattle.message.specs.declared.Integrity.{Integrity}
 use Rattle.message.proofs.Walks.{Stepped, walk-end, walk-step, walk-cut}
 use Rattle.message.proofs.integrity_of.Statement.{statement}
 use Rattle.message.proofs.integrity_of.Tie as tie

@@ -1,5 +1,4 @@
 -- `record::transport_of` meets its contract.
-use mathlib.Core.Path.{_≡_}
 use borrow.Author.Tests.{eq-eqb, ne-eqb}
 use Rattle.record.proofs.transport_of.Statement.{statement}
 use Rattle.record.proofs.transport_of.Tie as tie

@@ -1,5 +1,5 @@
 -- `replay::lines` meets its contract. The loop's invariant: the lines put so far, with those of what is left, are all that fit.
-use Prim.Native.Nat.{ℕ, _+_, _-_, _≤_, _<_}
+use Prim.Native.Nat.{_+_, _-_, _≤_, _<_}
 use mathlib.Core.Path.{_≡_, refl, _∙_}
 use native.Mathlib.Omega.{arith}
 use lib.ListN.{length}

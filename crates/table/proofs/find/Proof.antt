@@ -8,8 +8,6 @@ use denote.Ref.{now}
 use lib.ListN.{drop}
 use Rattle.message.specs.Head.{key}
 use Rattle.message.specs.declared.TransactionId.{TransactionId}
-use Rattle.rows.specs.Rows.{row}
-use Rattle.records.specs.Coding.{width}
 use Rattle.records.specs.Live.{live}
 use Rattle.records.proofs.Live.{live-next, live-end}
 use lib.Dec.{eqb}

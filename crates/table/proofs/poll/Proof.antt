@@ -6,15 +6,12 @@ use Prim.Native.Nat.{ℕ, _+_, _-_, _^_, _≤_}
 use mathlib.Core.Path.{_≡_, refl, sym, ap, _∙_}
 use denote.Ref.{now}
 use lib.ListN.{drop}
-use Rattle.message.specs.declared.TransactionId.{TransactionId}
 use Rattle.request.specs.Request.{pollOf}
-use Rattle.request.specs.Limits.{RequestLimits}
 use Rattle.request.specs.declared.StunRequestState.{StunRequestState}
 use Rattle.records.specs.Live.{live}
 use Rattle.records.proofs.Live.{live-next, live-end}
 use Rattle.requests.specs.Scan.{pollFrom, pollAll}
 use Rattle.requests.specs.Formed.{AllWithin}
-use Rattle.requests.specs.declared.Polled.{Polled}
 use Rattle.requests.specs.declared.Polled.the-variants.{TimedOut, Cancelled}
 use Rattle.table.proofs.Turns.{poll-past, poll-cancels, poll-times-out, poll-ended, within-here, within-ahead}
 use Rattle.table.proofs.poll.Statement.{statement}

@@ -1,15 +1,12 @@
 -- `table::poll_transmit` meets its contract: `Stands` holds at the head of each turn, and each way through one is a law.
 -- Assumes nothing.
 use borrow.Author.Needs.{needs}
-use native.Mathlib.Omega.{arith}
 use Prim.Native.Nat.{ℕ, _+_, _-_}
-use mathlib.Core.Path.{_≡_, sym, ap, subst, _∙_}
+use mathlib.Core.Path.{sym, ap, subst, _∙_}
 use mathlib.Core.List.{List}
 use mathlib.Core.Logic.{⊎-elim}
 use denote.Ref.{now}
 use Rattle.request.specs.Request.{transmitOf}
-use Rattle.request.specs.Limits.{RequestLimits}
-use Rattle.request.specs.declared.StunRequestState.{StunRequestState}
 use Rattle.table.proofs.Scans.{Stands, begun, here, rested, passed, went, ended}
 use Rattle.table.proofs.poll_transmit.Statement.{statement}
 use Rattle.table.proofs.poll_transmit.Tie as tie

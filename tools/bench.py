@@ -29,7 +29,11 @@ def host_program(name, *arguments):
 
 
 def port_library():
-    """Proves and builds the port's static library, where something changed."""
+    """Proves and builds the port's static library, unless it is younger than every file and folder of the crates."""
+    library = ROOT / "target" / "staticlib" / "libreplay.a"
+    sources = [ROOT / "crates.txt", *(ROOT / "crates").rglob("*")]
+    if library.is_file() and all(source.stat().st_mtime < library.stat().st_mtime for source in sources):
+        return
     if not shutil.which("rt"):
         sys.exit("the Rattle kit's rt isn't here: the port can't be built")
     done = subprocess.run(["rt", "staticlib", "replay"], cwd=ROOT, stdout=subprocess.PIPE, stderr=subprocess.STDOUT, text=True)

@@ -22,6 +22,7 @@ use Rattle.model.specs.World.{stateFormed}
 use Rattle.requests.specs.Use.{inUse}
 use Rattle.model.specs.Parts.{transmissionOf}
 use Rattle.model.specs.declared.StunAgent.{StunAgent}
+use Rattle.model.proofs.Store.{part-refused, part-unused, part-used}
 use Rattle.agent.specs.Ready.{worldOf, ready, Lent, HandsOut}
 
 -- A test in the code, negated, and what it tests.
@@ -109,34 +110,35 @@ few a t s = rw (length-live (a .requests) t) at (s .requests .count)
 
 -- ---- the part
 
-none-unready : (b s u : Bool) (p : List ℕ) → (b && s) ≡ false → _≡_ {A = List ℕ} [] (cond b (cond (s && u) p []) [])
-none-unready true s u p e = rw e
-none-unready false s u p e = refl
+none-by : (b s : Bool) (p : List ℕ) → (b && s) ≡ false → (s ≡ false → p ≡ []) → [] ≡ cond b p []
+none-by true s p e f = sym (f e)
+none-by false s p e f = refl
 
-none-unused : (b s u : Bool) (p : List ℕ) → u ≡ false → _≡_ {A = List ℕ} [] (cond b (cond (s && u) p []) [])
-none-unused true true u p e = rw e
-none-unused true false u p e = refl
-none-unused false s u p e = refl
-
-whole : (b s u : Bool) (p : List ℕ) → (b && s) ≡ true → u ≡ true → p ≡ cond b (cond (s && u) p []) []
-whole b s u p e f = let g = and-eq-true-iff b s .0 e in rw (g .0, g .1, f)
+none-of : (b : Bool) (p : List ℕ) → p ≡ [] → [] ≡ cond b p []
+none-of true p e = sym e
+none-of false p e = refl
 
 module _ (a : StunAgent) (places : ℕ) (t store : List ℕ) (row len : ℕ) where
   pub hands-unready : ready a places t store ≡ false → HandsOut a places t store row len []
-  unfolding transmissionOf
   hands-unready e = record {
-    says = λ peers st h. none-unready (leb size (length t)) (stateFormed 32 (worldOf a t store peers st)) (inUse row len (live (a .requests) t)) (partOf 32 store row len) (sym (state-ready a places t store peers st h) ∙ e);
+    says = λ peers st h.
+        let w = worldOf a t store peers st in
+        none-by (leb size (length t)) (stateFormed 32 w) (transmissionOf 32 w row len) (sym (state-ready a places t store peers st h) ∙ e)
+        (part-refused 32 w row len);
   }
 
   pub hands-unused : inUse row len (live (a .requests) t) ≡ false → HandsOut a places t store row len []
-  unfolding transmissionOf
   hands-unused e = record {
-    says = λ peers st h. none-unused (leb size (length t)) (stateFormed 32 (worldOf a t store peers st)) (inUse row len (live (a .requests) t)) (partOf 32 store row len) e;
+    says = λ peers st h.
+        let w = worldOf a t store peers st in
+        none-of (leb size (length t)) (transmissionOf 32 w row len) (part-unused 32 w row len e);
   }
 
   pub hands-part : ready a places t store ≡ true → inUse row len (live (a .requests) t) ≡ true → (p : List ℕ) → p ≡ partOf 32 store row len
       → HandsOut a places t store row len p
-  unfolding transmissionOf
   hands-part e f p g = record {
-    says = λ peers st h. g ∙ whole (leb size (length t)) (stateFormed 32 (worldOf a t store peers st)) (inUse row len (live (a .requests) t)) (partOf 32 store row len) (sym (state-ready a places t store peers st h) ∙ e) f;
+    says = λ peers st h.
+        let w = worldOf a t store peers st in
+        let is = and-eq-true-iff (leb size (length t)) (stateFormed 32 w) .0 (sym (state-ready a places t store peers st h) ∙ e) in
+        g ∙ (sym (part-used 32 w row len (is .1) f) ∙ rw (is .0));
   }

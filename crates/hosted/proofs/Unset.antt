@@ -9,11 +9,11 @@ use native.Mathlib.Omega.{arith}
 use lib.Dec.{leb}
 use lib.ListN.{length}
 use borrow.Author.Tests.{lt-leb, leb-true, leb-false}
-use Rattle.waits.specs.Waits.{defaultRto, waitOf, waitsOf, finalWait}
+use Rattle.waits.specs.Waits.{defaultRto, waitOf, finalWait}
 use Rattle.waits.specs.declared.RequestRto.{RequestRto}
 use Rattle.waits.specs.declared.Transport.{Transport}
 use Rattle.waits.specs.declared.Transport.the-variants.{Udp}
-use Rattle.waits.proofs.Doubling.{default-final}
+use Rattle.waits.proofs.Doubling.{default-waits, default-final}
 use Rattle.stats.specs.declared.StunAgentStats.{StunAgentStats}
 use Rattle.requests.specs.Search.{lookup, requestOf}
 use Rattle.model.specs.World.{World, StateFormed}
@@ -67,10 +67,6 @@ unfolding next
 next-none [] a h = refl
 next-none (t ∷ ts) a h = rw (lt-leb a t (h .0)) (next-none ts a (h .1))
 
-six : waitsOf Udp defaultRto ≡ 6
-unfolding defaultRto
-six = refl
-
 -- ---- seven sends, and 8,000 ms
 
 module _ (first : ℕ) (ticks sent over : List ℕ) (sent-are : sent ≡ first ∷ sendTimes defaultRto 6 0 first ticks)
@@ -119,12 +115,12 @@ module _ (x : ℕ) (b : StunAgentBuilder) (was : StunAgentStats) (o : Owned) (be
   sent-are : sentIn x (saw s) ≡ q .now ∷ sendTimes defaultRto 6 0 (q .now) (rounds post)
   sent-are =
       session-sends x b was o before q later s ∙ closed-form 32 x (startOf b was o) q pre post before later life .sends-are
-      ∙ rw (udp, left-unset, six)
+      ∙ rw (udp, left-unset, default-waits)
 
   over-is : timedOutAt x (saw s) ≡ listOf (endTime Udp defaultRto 6 0 (q .now) (rounds post))
   over-is =
       session-timeouts x b was o before q later s ∙ closed-form 32 x (startOf b was o) q pre post before later life .timeout-is
-      ∙ rw (udp, left-unset, six)
+      ∙ rw (udp, left-unset, default-waits)
 
   pub unset-waits : UnsetWaits x (q .now) (saw s) (rounds post) (s .last)
   unset-waits = record {

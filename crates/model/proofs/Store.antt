@@ -1,6 +1,6 @@
 -- An accepted request stands in the list, and its bytes at its row's start; nothing else in the store changes, nor in any other call.
 --     part-of-found       the part handed out for an outstanding request is its row's
---     part-refused, part-unused    no part where 1 would apply, nor of a row not in use or for another length
+--     part-refused, part-unused, part-used    no part where 1 would apply, nor of a row not in use or for another length; else the row's
 --     request-accepted    an accepted `send_request`
 --     stored-other, store-other    any other call: its change leaves the store alone, refused or not
 use Prim.Native.Nat.{ℕ, zero, suc, _+_, _*_, _≤_, _<_}
@@ -51,13 +51,6 @@ use Rattle.model.proofs.State.{state-exactly}
 use Rattle.model.proofs.Changes.{Joins, change-fits}
 use Rattle.model.proofs.Kept.{after-formed}
 
--- The part handed out for an outstanding request of a well-formed world.
-pub part-of-found : (rows : ℕ) (w : World) (k i : ℕ) (r : StunRequestState) → StateFormed rows w → lookup k (w .requests) ≡ At i r
-    → transmissionOf rows w (r .row) (r .len) ≡ partOf rows (w .store) (r .row) (r .len)
-unfolding transmissionOf
-part-of-found rows w k i r s e =
-    rw (state-exactly rows w .1 s, own-in-use (w .requests) i r (found-at k i r (w .requests) e .placed))
-
 module _ (rows : ℕ) (w : World) (row len : ℕ) where
   pub part-refused : stateFormed rows w ≡ false → transmissionOf rows w row len ≡ []
   unfolding transmissionOf
@@ -66,6 +59,16 @@ module _ (rows : ℕ) (w : World) (row len : ℕ) where
   pub part-unused : inUse row len (w .requests) ≡ false → transmissionOf rows w row len ≡ []
   unfolding transmissionOf
   part-unused e = rw (e, and-false)
+
+  pub part-used : stateFormed rows w ≡ true → inUse row len (w .requests) ≡ true → transmissionOf rows w row len ≡ partOf rows (w .store) row len
+  unfolding transmissionOf
+  part-used e f = rw (e, f)
+
+-- The part handed out for an outstanding request of a well-formed world.
+pub part-of-found : (rows : ℕ) (w : World) (k i : ℕ) (r : StunRequestState) → StateFormed rows w → lookup k (w .requests) ≡ At i r
+    → transmissionOf rows w (r .row) (r .len) ≡ partOf rows (w .store) (r .row) (r .len)
+part-of-found rows w k i r s e =
+    part-used rows w (r .row) (r .len) (state-exactly rows w .1 s) (own-in-use (w .requests) i r (found-at k i r (w .requests) e .placed))
 
 -- ---- an accepted request
 

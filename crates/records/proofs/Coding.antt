@@ -1,16 +1,15 @@
 -- A request's words: reading gives back what was written, and a row is read at its place in the table.
 use Prim.Native.Nat.{ℕ, _+_, _*_, _/_, _%_, _≤_, _<_}
-use mathlib.Core.Path.{_≡_, refl, sym, ap, ap₂, _∙_}
+use mathlib.Core.Path.{_≡_, refl, sym, ap, ap₂}
 use mathlib.Core.Bool.{Bool, true, false}
 use mathlib.Core.List.{List, [], _∷_}
 use native.Mathlib.Nat.{mod-eq-of-lt}
 use native.Mathlib.Numerals.{add-one, add-two, add-three, add-four, add-five}
 use native.Mathlib.Omega.{arith}
 use lib.Dec.{eqb}
-use lib.ListN.{length, take, drop, getD, set}
-use lib.Seq.{getD-take, getD-drop}
+use lib.ListN.{length, getD, set}
 use Rattle.rows.specs.Rows.{row, putAt}
-use Rattle.rows.proofs.Rows.{sets-put}
+use Rattle.rows.proofs.Rows.{row-word, sets-put}
 use Rattle.address.specs.declared.Host.{Host}
 use Rattle.address.specs.declared.Host.the-variants.{V4, V6}
 use Rattle.address.specs.declared.Address.{Address}
@@ -119,10 +118,8 @@ same f g h =
     rw (h 0 (omega arith), h 1 (omega arith), h 2 (omega arith), h 3 (omega arith), h 4 (omega arith), h 5 (omega arith), h 6 (omega arith), h 7 (omega arith), h 8 (omega arith), h 9 (omega arith), h 10 (omega arith), h 11 (omega arith), h 12 (omega arith), h 13 (omega arith), h 14 (omega arith), h 15 (omega arith), h 16 (omega arith), h 17 (omega arith))
 
 pub decode-row : (t : List ℕ) (i : ℕ) → decodeBy (wordsFrom t (i * width)) ≡ decode (row width t i)
-unfolding decode row
-decode-row t i =
-    same (wordsFrom t (i * width)) (λ k. getD (take width (drop (i * width) t)) k 0)
-    (λ k h. sym (getD-take width (drop (i * width) t) k 0 h ∙ getD-drop (i * width) t k 0))
+unfolding decode
+decode-row t i = same (wordsFrom t (i * width)) (λ k. getD (row width t i) k 0) (λ k h. sym (row-word width t i k 0 h))
 
 pub id-row : (t : List ℕ) (i : ℕ) → idBy (wordsFrom t (i * width)) ≡ decode (row width t i) .«transaction_id»
 unfolding decodeBy

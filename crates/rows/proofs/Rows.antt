@@ -1,5 +1,6 @@
 -- Words as rows, for rows of any width w and lists of any length.
 --     rows-next, length-rows, joined-rows    the rows one by one, how many, and put together again
+--     row-word                               a word of a row
 --     rows-put, drop-put, length-put         one row written
 --     put-put, sets-put                      stores side by side are one
 --     held                                   words from the rows that they hold and what is behind
@@ -11,8 +12,8 @@ use mathlib.Core.List.{List, [], _∷_, _++_, append-assoc}
 use native.Mathlib.Nat.{le-of-suc-le-suc, not-suc-le-zero, zero-add, zero-mul, suc-mul, add-comm, add-assoc, add-zero, mul-le-mul-right}
 use native.Mathlib.Numerals.{add-one}
 use native.Mathlib.Omega.{arith}
-use lib.ListN.{length, take, drop, set, length-append, length-drop, take-append-drop}
-use lib.Seq.{take-add, drop-drop, take-at, drop-at, drop-append-le, length-take-le, take-take, sets, sets-eq}
+use lib.ListN.{length, take, drop, getD, set, length-append, length-drop, take-append-drop}
+use lib.Seq.{getD-take, getD-drop, take-add, drop-drop, take-at, drop-at, drop-append-le, length-take-le, take-take, sets, sets-eq}
 use Rattle.rows.proofs.Lists.{slice-drop}
 use Rattle.rows.specs.Lists.{insertAt, removeAt}
 use Rattle.rows.specs.Rows.{row, rows, joined, putAt, withRows}
@@ -90,6 +91,10 @@ module _ (w : ℕ) where
 
   pub rows-next : (n i : ℕ) (t : List ℕ) → i < n → drop i (rows w n t) ≡ row w t i ∷ drop (i + 1) (rows w n t)
   rows-next n i t h = rw add-one (next n i t h)
+
+  pub row-word : (t : List ℕ) (i k d : ℕ) → k < w → getD (row w t i) k d ≡ getD t (i * w + k) d
+  unfolding row
+  row-word t i k d h = getD-take w (drop (i * w) t) k d h ∙ getD-drop (i * w) t k d
 
   pub length-rows : (n : ℕ) (t : List ℕ) → length (rows w n t) ≡ n
   length-rows zero t = refl

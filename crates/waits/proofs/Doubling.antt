@@ -37,6 +37,10 @@ pub default-span-stream : finalWait Tcp defaultRto ≡ milliseconds 39500
 unfolding defaultRto sumOf finalWait
 default-span-stream = refl
 
+pub default-waits : waitsOf Udp defaultRto ≡ 6
+unfolding defaultRto
+default-waits = refl
+
 pub default-final : finalWait Udp defaultRto ≡ milliseconds 8000
 unfolding defaultRto finalWait
 default-final = refl

@@ -6,7 +6,10 @@ use crate::{Difference, Program, Tally};
 use generate::Family;
 use oracle::{judge, Judge, Judged};
 use records::lines;
+use std::num::NonZeroUsize;
 use std::ops::Range;
+use std::sync::Mutex;
+use std::thread;
 use std::time::Instant;
 
 /// What to run.
@@ -27,32 +30,89 @@ struct Case {
     judged: Vec<Judged>,
 }
 
-impl Run {
-    /// Plays all traces; stops at the first difference, made as short as it gets.
-    pub fn go(&self) -> (Tally, Result<(), Difference>) {
-        let mut tally = Tally::default();
-        let outcome = self.play_all(&mut tally);
-        (tally, outcome)
+/// A trace's place in a run: the number of its family, and its seed.
+type Place = (usize, u64);
+
+/// What one thread counted, and the difference that it ended at.
+type Part = (Tally, Option<(Place, Difference)>);
+
+/// The least place at which any thread has found a difference.
+#[derive(Default)]
+struct Found(Mutex<Option<Place>>);
+
+impl Found {
+    fn note(&self, place: Place) {
+        let mut least = self.0.lock().expect("no thread panics here");
+        *least = least.into_iter().chain([place]).min();
     }
 
-    fn play_all(&self, tally: &mut Tally) -> Result<(), Difference> {
-        let mut waiting = Vec::new();
-        for &family in &self.families {
-            for seed in self.seeds.clone() {
-                let case = judged_case(family, seed)?;
-                tally.count(family, &case.trace, &case.judged);
-                if ends_replay(&case) {
-                    self.compare(std::slice::from_ref(&case))?;
-                    continue;
+    fn before(&self, place: Place) -> bool {
+        self.0.lock().expect("no thread panics here").is_some_and(|least| least < place)
+    }
+}
+
+impl Run {
+    /// Plays all traces; stops at the first difference, made as short as it gets. It is the one at the least place,
+    /// however many threads there are.
+    pub fn go(&self) -> (Tally, Result<(), Difference>) {
+        let (threads, found) = (self.threads(), Found::default());
+        let parts: Vec<Part> = thread::scope(|scope| {
+            let start = |first| {
+                let found = &found;
+                scope.spawn(move || self.play_part(first, threads, found))
+            };
+            let started: Vec<_> = (0..threads).map(start).collect();
+            started.into_iter().map(|thread| thread.join().expect("a difference is no panic")).collect()
+        });
+        let mut tally = Tally::default();
+        let mut least = None;
+        for (counted, difference) in parts {
+            tally.add(counted);
+            least = least.into_iter().chain(difference).min_by_key(|(place, _)| *place);
+        }
+        (tally, least.map_or(Ok(()), |(_, difference)| Err(difference)))
+    }
+
+    /// One for each processor; a command takes its traces one after the other.
+    fn threads(&self) -> usize {
+        match self.program {
+            Some(Program::Command { .. }) => 1,
+            _ => thread::available_parallelism().map_or(1, NonZeroUsize::get),
+        }
+    }
+
+    /// Plays every nth seed from the first on; ends at a difference, or behind one that another thread found.
+    fn play_part(&self, first: usize, n: usize, found: &Found) -> Part {
+        let (mut tally, mut waiting) = (Tally::default(), Vec::new());
+        for (number, &family) in self.families.iter().enumerate() {
+            for seed in self.seeds.clone().skip(first).step_by(n) {
+                let place = (number, seed);
+                if found.before(place) {
+                    return (tally, None);
                 }
-                waiting.push(case);
-                if waiting.len() >= self.join {
-                    self.compare(&waiting)?;
-                    waiting.clear();
+                if let Err(difference) = self.play(family, seed, &mut waiting, &mut tally) {
+                    found.note(place);
+                    return (tally, Some((place, difference)));
                 }
             }
         }
-        self.compare(&waiting)
+        let end = (self.families.len(), 0);
+        (tally, self.compare(&waiting).err().map(|difference| (end, difference)))
+    }
+
+    /// Judges a trace and counts it; compares it, once enough are waiting to be played as one.
+    fn play(&self, family: Family, seed: u64, waiting: &mut Vec<Case>, tally: &mut Tally) -> Result<(), Difference> {
+        let case = judged_case(family, seed)?;
+        tally.count(family, &case.trace, &case.judged);
+        if ends_replay(&case) {
+            return self.compare(std::slice::from_ref(&case));
+        }
+        waiting.push(case);
+        if waiting.len() >= self.join {
+            self.compare(waiting)?;
+            waiting.clear();
+        }
+        Ok(())
     }
 
     /// Compares the program's lines on these traces, played as one.

@@ -73,6 +73,20 @@ impl Tally {
         }
     }
 
+    /// Counts what another run met as well.
+    pub fn add(&mut self, other: Tally) {
+        fn sum<K: Ord>(counts: &mut BTreeMap<K, u64>, more: BTreeMap<K, u64>) {
+            more.into_iter().for_each(|(name, count)| *counts.entry(name).or_default() += count);
+        }
+        sum(&mut self.traces, other.traces);
+        sum(&mut self.kinds, other.kinds);
+        sum(&mut self.answers, other.answers);
+        sum(&mut self.boundaries, other.boundaries);
+        self.all_rust += other.all_rust;
+        self.by_rust += other.by_rust;
+        self.by_reading += other.by_reading;
+    }
+
     /// Answers, kinds and boundaries that were never met.
     pub fn unmet(&self) -> Vec<String> {
         let answers =

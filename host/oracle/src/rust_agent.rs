@@ -173,7 +173,8 @@ fn check<T: AsRef<[u8]>>(transmit: &Transmit<T>, transport: TransportType, messa
 /// Below zero, which is document 01's number 12, the Rust has no answer.
 fn check_figures(statistics: &StunAgentStats) {
     let Answer::Stats(fields) = debug_text::statistics(statistics) else { unreachable!() };
-    let [sent, _, _, answered, _, _, timed_out, cancelled, _, _, sum, _, _, count] = fields.map(Option::unwrap_or_default);
+    let [sent, _, _, answered, _, _, timed_out, cancelled, _, _, sum, _, _, count] =
+        fields.map(Option::unwrap_or_default);
     let average = (count > 0).then(|| Duration::from_nanos(sum / count));
     assert_eq!(statistics.rtt_average(), average, "the average");
     if let Some(outstanding) = sent.checked_sub(answered + timed_out + cancelled) {

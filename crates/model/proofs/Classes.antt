@@ -108,6 +108,7 @@ scan-passes rows w s now m formed low high =
 
 -- ---- effects
 
+-- The agent afterwards: `agentAfter`, by the new peer instead of the call that brings it.
 abbrev pub agentWith : World → Kind → Change → Option Address → StunAgent
 agentWith w k c p = record {
   transport = w .agent .transport;

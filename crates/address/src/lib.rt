@@ -1,9 +1,11 @@
 // Socket addresses: what `core::net::SocketAddr` is in the Rust.
-ghost use Rattle.core.specs.Prelude.{◌≡◌, ◌&&◌};
+#![tactic(auto)]
+
+ghost use Rattle.std.specs.Prelude.{◌≡◌, ◌&&◌};
 ghost use Rattle.address.specs.Address.{same_host, same_address};
 
 // An IPv6 address is its first eight bytes, `hi`, and its last eight, `lo`.
-#[derive(Drop)]
+#[derive(Clone, Copy)]
 pub enum Host {
     V4(u32),
     V6 {
@@ -15,7 +17,7 @@ pub enum Host {
 }
 
 // A struct around the enum, since a slice of enums has no laws to walk by.
-#[derive(Drop)]
+#[derive(Clone, Copy)]
 pub struct Address {
     pub host: Host,
     pub port: u16,

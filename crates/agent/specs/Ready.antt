@@ -35,12 +35,7 @@ pub record Lent (a : StunAgent) (t : List ℕ) : Type 0 where
   pub settings : Limits a.rto
   pub requests : Formed 32 a.mark (live a.requests t)
 
--- The host's own promise to `transmission`: the list of peers that it lends has as many places as it says. The function isn't handed the
--- list, so it can't look.
-abbrev pub Lends : ℕ → List Address → Type 0
-Lends places peers = length peers ≡ places
-
 -- The part is the model's, whoever the peers are and whatever was counted; of a table that is too short it is empty.
 pub record HandsOut (a : StunAgent) (places : ℕ) (t store : List ℕ) (row len : ℕ) (part : List ℕ) : Type 0 where
-  pub says : (peers : List Address) (st : StunAgentStats) → Lends places peers
+  pub says : (peers : List Address) (st : StunAgentStats) → length peers ≡ places
       → part ≡ cond (leb size (length t)) (transmission_of 32 (world_of a t store peers st) row len) []

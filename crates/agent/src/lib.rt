@@ -4,6 +4,8 @@
 //
 // The agent's calls over the table and the store that the host lends. The types are the model's, which is another crate, so that the
 // Rust's methods are functions here.
+#![tactic(auto)]
+
 ghost use Rattle.std.specs.Prelude.{◌≡◌, ◌+◌, false, cond, not, ◌&&◌, leb};
 ghost use Rattle.model.specs.Calls.{ask, validate, numbers, mean, unsettled, anew, carries, scans, names, meets, counts, sends, transmits, reports, silence, cancel, configure, query, short_form};
 ghost use Rattle.std.proofs.Math.Option.{none, some};
@@ -121,8 +123,7 @@ fn is_ready(agent: StunAgent, places: usize, table: &[u64], store: &[u8]) -> boo
     formed::is_formed(table, agent.requests, agent.mark)
 }
 
-// The bytes of a transmission, as a part of the store and no copy. `places` is the length of the list of peers that the host lends: it
-// promises that (`Lends`).
+// The bytes of a transmission, as a part of the store and no copy.
 pub fn transmission<'a>(
     agent: StunAgent,
     places: usize,
@@ -145,14 +146,14 @@ pub fn transmission<'a>(
 // ---- the calls
 
 // Where a new peer goes in the lent list.
-#[derive(Drop)]
+#[derive(Clone, Copy)]
 pub enum Place {
     At(usize),
     Nowhere,
 }
 
 // What a call leaves: the agent, its answer, the event to count, and where the call's address goes.
-#[derive(Drop)]
+#[derive(Clone, Copy)]
 pub struct Called {
     pub agent: StunAgent,
     pub answer: Answer,
@@ -336,7 +337,7 @@ fn request_transaction(agent: StunAgent, table: &[u64], id: TransactionId) -> Ca
 }
 
 // What is to be changed in a request.
-#[derive(Drop)]
+#[derive(Clone, Copy)]
 enum Wish {
     Silence,
     Cancel,
@@ -562,7 +563,7 @@ fn send_request(
 // ---- received messages
 
 // With a clock or without: the Rust's two handlers.
-#[derive(Drop)]
+#[derive(Clone, Copy)]
 enum Clock {
     At(u64),
     Absent,

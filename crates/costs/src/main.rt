@@ -1,5 +1,7 @@
 // Calls a function of the table many times, so that its instructions can be counted (tools/costs). Its arguments: a letter for the call,
 // the number of requests, and the number of turns. It prints a sum of what the calls answered.
+#![tactic(auto)]
+
 ghost use Rattle.std.specs.Prelude.{◌<◌, ◌≤◌, length};
 ghost use Rattle.records.specs.Coding.{size};
 ghost use Rattle.waits.specs.Waits.{Limits};

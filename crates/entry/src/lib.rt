@@ -6,6 +6,8 @@
 // statistics by value, and the start of a fresh agent. The Rust's methods of `StunAgent` are functions here, since its type is another
 // crate's. What takes a list of addresses or the statistics record by reference is thin, free of branches, and proved by a walk of its
 // MIR; all tests and effects stand behind `agent::dispatch`.
+#![tactic(auto)]
+
 ghost use Rattle.std.specs.Prelude.{◌≡◌};
 ghost use Rattle.entry.specs.Entry.{answered_of, index_of, event_in, answered_in, stepped_of, Settled, Performed, Started};
 
@@ -15,7 +17,7 @@ use model::{Answer, Built, Call, StunAgent, StunAgentBuilder};
 use stats::{Event, StunAgentStats};
 
 // What a call leaves besides what was lent.
-#[derive(Drop)]
+#[derive(Clone, Copy)]
 pub struct Answered {
     pub agent: StunAgent,
     pub answer: Answer,
@@ -75,14 +77,14 @@ pub fn call(
 }
 
 // What a caller carries from call to call that holds the peers and the statistics by value; table and store stay lent.
-#[derive(Drop)]
+#[derive(Clone, Copy)]
 pub struct Held {
     pub agent: StunAgent,
     pub peers: [Address; 64],
     pub stats: StunAgentStats,
 }
 
-#[derive(Drop)]
+#[derive(Clone, Copy)]
 pub struct Stepped {
     pub held: Held,
     pub answer: Answer,

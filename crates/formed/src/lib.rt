@@ -1,5 +1,7 @@
 // Questions that change nothing in the table: which row of the store is free, whether a row is in use, and whether the requests are well
 // formed. Where rows are flagged, the loop goes down the table: it knows the flags of the requests behind the one that it reads.
+#![tactic(auto)]
+
 ghost use Rattle.std.specs.Prelude.{◌≡◌, ◌≤◌, length};
 ghost use Rattle.message.specs.Head.{key};
 ghost use Rattle.requests.specs.Search.{free_row};
@@ -16,7 +18,7 @@ use request::StunRequestState;
 use requests::FreeRow;
 
 // The identifier of the request behind, if there is one.
-#[derive(Drop)]
+#[derive(Clone, Copy)]
 enum Next {
     Id(TransactionId),
     End,

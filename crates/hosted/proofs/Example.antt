@@ -34,12 +34,12 @@ use Rattle.model.specs.Worked.{peer, ending}
 use Rattle.model.specs.Runs.{Turn}
 use Rattle.model.specs.declared.Answer.TheVariants as answer
 use Rattle.runs.specs.Run.{kind_in}
-use Rattle.runs.specs.Round.{plays}
+use Rattle.runs.specs.Round.{transmission, poll, plays}
 use Rattle.runs.specs.Demand.{submits}
 use Rattle.agent.specs.Ready.{world_with}
 use Rattle.hosted.specs.Session.{Owned, world_in, Opens, Calls, rests, then_call, Submitted}
 use Rattle.hosted.specs.Rounds.{none_left, told_to_wait, ends, then_round, Plays}
-use Rattle.hosted.specs.Example.{after, answer_to, begun, asked, transmission, poll, round, response, sent, transmitted, polled, Values}
+use Rattle.hosted.specs.Example.{after, answer_to, begun, asked, round, response, sent, transmitted, polled, Values}
 use Rattle.hosted.proofs.Unset.{unset_waits}
 use Rattle.hosted.proofs.Row.{row_kept}
 
@@ -82,7 +82,7 @@ submitted = record {
   accepted = refl;
   replies = answer.None ∷ answer.Wait (milliseconds 500) ∷ [];
   last = polled;
-  serves = then_call (called sent transmission refl refl) (then_call (called transmitted poll refl refl) rests);
+  serves = then_call (called sent (transmission 0) refl refl) (then_call (called transmitted (poll 0) refl refl) rests);
 }
 
 played : Plays submitted [] (plays 0 ∷ [])

@@ -1,10 +1,10 @@
 -- What a host played, by the answers that it saw, is what `Runs` and `Life` of crate `runs` say of the model.
---     round_of_lem, round_idle, played_runs    a round, one that finds nothing to do, and steps
---     plays_life                           demand 3's hypotheses
+--     transmits, polls, played_runs    rounds, and steps
+--     plays_life                       demand 3's hypotheses
 use Prim.Native.Nat.{ℕ, zero, suc}
 use mathlib.Core.Path.{◌≡◌, refl, sym, ap, subst, ◌∙◌}
 use mathlib.Core.Bool.{Bool, true, false, ◌&&◌}
-use mathlib.Core.List.{List, [], ◌∷◌, ◌++◌, map, append_assoc, map-append}
+use mathlib.Core.List.{List, [], ◌∷◌, ◌++◌, append_assoc}
 use native.Mathlib.Omega.{arith}
 use lib.Dec.{eqb}
 use borrow.Author.Tests.{ne_eqb}
@@ -15,27 +15,24 @@ use Rattle.message.specs.declared.Message.{Message}
 use Rattle.message.specs.declared.Parsed.{Parsed}
 use Rattle.message.specs.declared.Parsed.TheVariants.{Good, Bad}
 use Rattle.stats.specs.declared.StunAgentStats.{StunAgentStats}
-use Rattle.requests.proofs.Lists.{apart}
 use Rattle.model.specs.World.{World}
 use Rattle.model.specs.Calls.{submits as submits-to, sends, receives, Kind, carries, scans, names, meets, counts}
 use Rattle.model.specs.Accepts.{on_message, is_response, accepts}
 use Rattle.model.specs.Refusals.{refusal_of}
 use Rattle.model.specs.Effects.{yes_or_no, passage_answer}
-use Rattle.model.specs.Says.{Said, number_in, says_of}
-use Rattle.model.specs.Runs.{Turn, with, bare, answers, run}
+use Rattle.model.specs.Says.{number_in, says_of}
+use Rattle.model.specs.Runs.{Turn, answers, run}
 use Rattle.model.specs.declared.StunAgentBuilder.{StunAgentBuilder}
-use Rattle.model.specs.declared.Call.TheVariants as call
 use Rattle.model.specs.declared.Answer.{Answer}
 use Rattle.model.specs.declared.Answer.TheVariants as answer
 use Rattle.model.proofs.Refused.{refused_same}
 use Rattle.model.proofs.Answers.{answer_number}
 use Rattle.model.proofs.Classes.{done, answer_receives}
 use Rattle.model.proofs.Store.{request_accepted}
-use Rattle.model.proofs.Unread.{said_bare}
 use Rattle.runs.specs.Answers.{is_yes}
 use Rattle.runs.specs.Run.{kind_in, said, hands_out, answers_to, handles}
 use Rattle.runs.specs.Round as runs
-use Rattle.runs.specs.Round.{transmission, poll, is_report, Step, plays, Round, Runs, Transmits, Polls}
+use Rattle.runs.specs.Round.{transmission, poll, is_report, Step, plays, Runs, Transmits, Polls}
 use Rattle.runs.specs.Demand.{LeftAlone, begins, Submission, submits, Life}
 use Rattle.runs.specs.Counts.{exchange}
 use Rattle.runs.specs.Ends.{submits_it, responds_to}
@@ -53,75 +50,30 @@ tail_same : {a c : Answer} {l k : List Answer} → a ∷ l ≡ c ∷ k → l ≡
 tail_same e = cc
 
 module _ (rows : ℕ) where
-  -- a poll answers and does the same whatever bytes it is handed
-  sent_as_lem : (now : ℕ) (m : List ℕ) (w : World) → said rows w (transmission now) ≡ said rows w (with (call.PollTransmit now) m)
-  sent_as_lem now m w = said_bare rows w (with (call.PollTransmit now) m)
-
-  told_as : (now : ℕ) (m : List ℕ) (w : World) → said rows w (poll now) ≡ said rows w (with (call.Poll now) m)
-  told_as now m w = said_bare rows w (with (call.Poll now) m)
-
   pub transmits : {now : ℕ} {rs : List Turn} {k : List Answer} → Transmissions now rs k → (w : World) (bs : List Turn) (l : List Answer)
-      → k ++ l ≡ answers rows w (rs ++ bs) → (v : World) × Transmits rows now w (map bare rs) v × (l ≡ answers rows v bs)
-  transmits {now} (none_left {m}) w bs l e =
-      let z = sent_as_lem now m w in (
-        (said rows w (transmission now)).world,
-        runs.none_left (ap (λ (s : Said). s.answer) z ∙ sym (head_same e)),
-        tail_same e ∙ ap (λ (s : Said). answers rows s.world bs) (sym z),
-      )
-  transmits {now} (one_more {m} {a} {ts} h d) w bs l e =
-      let z = sent_as_lem now m w in
-      let is : a ≡ (said rows w (transmission now)).answer = head_same e ∙ ap (λ (s : Said). s.answer) (sym z) in
-      let y =
-      transmits d (said rows w (transmission now)).world bs l
-      (tail_same e ∙ ap (λ (s : Said). answers rows s.world (ts ++ bs)) (sym z)) in
-      (y.0, runs.one_more (ap hands_out (sym is) ∙ h) y.1, y.2)
+      → k ++ l ≡ answers rows w (rs ++ bs) → (v : World) × Transmits rows now w rs v × (l ≡ answers rows v bs)
+  transmits {now} none_left w bs l e =
+      ((said rows w (transmission now)).world, runs.none_left (sym (head_same e)), tail_same e)
+  transmits {now} (one_more {a} h d) w bs l e =
+      let z : a ≡ (said rows w (transmission now)).answer = head_same e in
+      let y = transmits d (said rows w (transmission now)).world bs l (tail_same e) in
+      (y.0, runs.one_more (ap hands_out (sym z) ∙ h) y.1, y.2)
 
   pub polls : {now clock : ℕ} {ps : List Turn} {j : List Answer} → Reports now ps j clock → (w : World) (bs : List Turn) (l : List Answer)
-      → j ++ l ≡ answers rows w (ps ++ bs) → (u : World) × Polls rows now w (map bare ps) u clock × (l ≡ answers rows u bs)
-  polls {now} (told_to_wait {m}) w bs l e =
-      let z = told_as now m w in (
-        (said rows w (poll now)).world,
-        runs.told_to_wait (ap (λ (s : Said). s.answer) z ∙ sym (head_same e)),
-        tail_same e ∙ ap (λ (s : Said). answers rows s.world bs) (sym z),
-      )
-  polls {now} (one_report {m} {a} {ts} h d) w bs l e =
-      let z = told_as now m w in
-      let is : a ≡ (said rows w (poll now)).answer = head_same e ∙ ap (λ (s : Said). s.answer) (sym z) in
-      let y =
-      polls d (said rows w (poll now)).world bs l
-      (tail_same e ∙ ap (λ (s : Said). answers rows s.world (ts ++ bs)) (sym z)) in
-      (y.0, runs.one_report (ap is_report (sym is) ∙ h) y.1, y.2)
-
-  -- a round, with what the host was answered in it
-  pub round_of_lem : {now clock : ℕ} {rs ps : List Turn} {k j : List Answer} → Transmissions now rs k → Reports now ps j clock
-      → (w : World) (bs : List Turn) (l : List Answer) → k ++ (j ++ l) ≡ answers rows w (rs ++ (ps ++ bs))
-      → (u : World) × Round rows now w (map bare (rs ++ ps)) u clock × (l ≡ answers rows u bs)
-  round_of_lem {now} {clock} {rs} {ps} {j = j} a b w bs l e =
-      let y = transmits a w (ps ++ bs) (j ++ l) e in
-      let z = polls b y.0 bs l y.2 in
-      (z.0, rw (map-append bare rs ps) (runs.round y.1 z.1), z.2)
-
-  -- where its first transmission and its first poll are answered so, there are no more of either
-  pub round_idle : {now clock : ℕ} {rs ps : List Turn} {k j : List Answer} → Transmissions now rs k → Reports now ps j clock → (w : World)
-      → k ++ j ≡ answers rows w (rs ++ ps) → (said rows w (transmission now)).answer ≡ answer.None
-      → (again : ℕ) × ((said rows (said rows w (transmission now)).world (poll now)).answer ≡ answer.Wait again)
-      → (k ≡ answer.None ∷ []) × (j ≡ answer.Wait clock ∷ [])
-  round_idle {now} (one_more {m} h d) b w e quiet told =
-      apart (sym h ∙ ap hands_out (head_same e ∙ ap (λ (s : Said). s.answer) (sym (sent_as_lem now m w)) ∙ quiet))
-  round_idle (none_left {m}) told_to_wait w e quiet told = (refl, refl)
-  round_idle {now} (none_left {m}) (one_report {m = m'} h d) w e quiet told =
-      let v = (said rows w (transmission now)).world in
-      let first : (said rows (said rows w (with (call.PollTransmit now) m)).world (with (call.Poll now) m')).answer ≡ (said rows v (poll now)).answer =
-      ap (λ (s : Said). (said rows s.world (with (call.Poll now) m')).answer) (sym (sent_as_lem now m w))
-      ∙ ap (λ (s : Said). s.answer) (sym (told_as now m' v)) in
-      apart (sym h ∙ ap is_report (head_same (tail_same e) ∙ first ∙ told.1))
+      → j ++ l ≡ answers rows w (ps ++ bs) → (u : World) × Polls rows now w ps u clock × (l ≡ answers rows u bs)
+  polls {now} told_to_wait w bs l e = ((said rows w (poll now)).world, runs.told_to_wait (sym (head_same e)), tail_same e)
+  polls {now} (one_report {a} h d) w bs l e =
+      let z : a ≡ (said rows w (poll now)).answer = head_same e in
+      let y = polls d (said rows w (poll now)).world bs l (tail_same e) in
+      (y.0, runs.one_report (ap is_report (sym z) ∙ h) y.1, y.2)
 
   pub played_runs : {ss : List Step} {ts : List Turn} {l : List Answer} → Played ss ts l → (w : World) → l ≡ answers rows w ts → Runs rows w ss ts
   played_runs ends w e = runs.ends
   played_runs (then_call {t} c d) w e = runs.then_call c (played_runs d (said rows w t).world (tail_same e))
-  played_runs (then_round {now} {rs = rs} {ps} {ts} {l = l} {ss} a b d) w e =
-      let z = round_of_lem a b w ts l e in
-      subst (Runs rows w (plays now ∷ ss)) (append_assoc rs ps ts) (runs.then_round (rs ++ ps) z.1 refl (played_runs d z.0 z.2))
+  played_runs (then_round {now} {rs = rs} {ps} {ts} {j = j} {l} {ss} a b d) w e =
+      let y = transmits a w (ps ++ ts) (j ++ l) e in
+      let z = polls b y.0 ts l y.2 in
+      subst (Runs rows w (plays now ∷ ss)) (append_assoc rs ps ts) (runs.then_round (runs.round y.1 z.1) (played_runs d z.0 z.2))
 
 -- ---- a request that is left alone
 

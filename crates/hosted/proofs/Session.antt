@@ -1,13 +1,12 @@
 -- Every session is a run of the model, so that the theorems about runs are theorems about the calls of a host.
 --     opened                              a started agent is the model's fresh one
 --     call_as_model, serves_as_model      a call, and calls one after the other, are the model's, from what the host owns
---     serves_append                       calls in two parts
 --     served_as_model                     a session is a run of the model, from the fresh agent
 --     seen_is, sent_is, timed_out_is      what the host saw is the run's history, with its sends and its timeout
 use Prim.Native.Nat.{ℕ, ◌≤◌}
 use mathlib.Core.Path.{◌≡◌, refl, ap, ◌∙◌}
 use mathlib.Core.Bool.{Bool, true, false}
-use mathlib.Core.List.{List, [], ◌∷◌, ◌++◌}
+use mathlib.Core.List.{List, [], ◌∷◌}
 use lib.ListN.{length}
 use native.Mathlib.Omega.{arith}
 use Rattle.waits.specs.Waits.{within_limits}
@@ -75,10 +74,6 @@ serves_as_model (then_call {o} {o'} {o''} {t} {ts} {a} {l} c d) h =
       world_is = s.world_is ∙ ap (λ (v : World). run 32 v ts) w;
       whole = s.whole;
     }
-
-pub serves_append : {o o' o'' : Owned} {ts us : List Turn} {l k : List Answer} → Serves o ts l o' → Serves o' us k o'' → Serves o (ts ++ us) (l ++ k) o''
-serves_append rests d = d
-serves_append (then_call c e) d = then_call c (serves_append e d)
 
 -- ---- what the host saw
 

@@ -4,9 +4,9 @@
 --     stays_formed         and the world stays well formed
 --     response_accepted    a response to a request in the table
 use Prim.Native.Nat.{ℕ}
-use mathlib.Core.Path.{◌≡◌, refl, sym, ap, ◌∙◌}
+use mathlib.Core.Path.{◌≡◌, refl, sym, ap, ◌∙◌, subst}
 use mathlib.Core.Bool.{true, false}
-use mathlib.Core.List.{List, [], ◌∷◌, ◌++◌}
+use mathlib.Core.List.{List, [], ◌∷◌, ◌++◌, append_assoc}
 use mathlib.Core.Option.{Option, some}
 use native.Mathlib.Omega.{arith}
 use Rattle.address.specs.declared.Address.{Address}
@@ -32,17 +32,25 @@ use Rattle.model.proofs.Classes.{past_receives}
 use Rattle.model.proofs.Received.{answer_accepted, accepted_yes}
 use Rattle.model.proofs.Kept.{run_formed}
 use Rattle.runs.specs.Run.{kind_in, said, timeouts}
-use Rattle.runs.specs.Round.{round, Step, Runs, ends, then_call, then_round}
+use Rattle.runs.specs.Round.{Transmits, none_left, one_more, Polls, told_to_wait, one_report, round, Step, Runs, ends, then_call, then_round}
 use Rattle.runs.specs.Demand.{Steady, LeftAlone, Start, begins, Submission, submits, Life}
-use Rattle.runs.proofs.Bare.{timeouts_bare}
-use Rattle.runs.proofs.Steady.{Ok, next_ok, transmits_world, round_run, ok_transmits, ok_round, run_append}
+use Rattle.runs.proofs.Steady.{Ok, next_ok, transmits_world, round_world, ok_transmits, ok_round, run_append}
 use Rattle.runs.proofs.Spared.{others_spare}
 use Rattle.runs.proofs.One.{Loud}
-use Rattle.runs.proofs.Present.{Went, transmits_went, Outcome, stayed, timed, polls_outcome, timeouts_append, alone_rest, found_of}
+use Rattle.runs.proofs.Present.{Went, transmits_went, Outcome, stayed, timed, polls_outcome, timeouts_append, found_of}
 use Rattle.runs.proofs.Demand.{entered, post_steady}
 use Rattle.hosted.specs.Unset.{Response}
 
 -- ---- a run
+
+module _ (rows x : ℕ) (bs : List Turn) where
+  transmits_alone : {now : ℕ} {w v : World} {ts : List Turn} → Transmits rows now w ts v → LeftAlone rows x w (ts ++ bs) → LeftAlone rows x v bs
+  transmits_alone (none_left e) h = h.1
+  transmits_alone (one_more e d) h = transmits_alone d h.1
+
+  polls_alone : {now clock : ℕ} {w v : World} {ts : List Turn} → Polls rows now w ts v clock → LeftAlone rows x w (ts ++ bs) → LeftAlone rows x v bs
+  polls_alone (told_to_wait e) h = h.1
+  polls_alone (one_report e d) h = polls_alone d h.1
 
 nil_front : (xs ys : List ℕ) → xs ++ ys ≡ [] → xs ≡ []
 nil_front [] ys e = refl
@@ -60,7 +68,7 @@ module _ (rows x : ℕ) (tr : Transport) (set : RequestRto) where
       let s = others_spare rows x w o.formed t c n.0 in
       still_there d z.floor z.ok z.steady n.1 last r (s.kept ∙ f) q
       (ap (λ (l : List ℕ). l ++ timeouts rows x (said rows w t).world ts) (sym s.untimed) ∙ e)
-  still_there (then_round {w} {u} {now} {clock} rs {ts = ts} {ss = ss} (round {v} {ts = as'} {ps} a b) c d) m o h n last r f q e =
+  still_there (then_round {w} {u} {now} {clock} {ts = ts} {ss = ss} (round {v} {ts = as'} {ps} a b) d) m o h n last r f q e =
       go (polls_outcome rows x tr set now h.1 g.clock g.request g.loud b (ok_transmits a m h.0 o) g.found)
       (λ k e'. still_there d now (ok_round (round a b) m h.0 o) h.2 alone g.clock g.request k g.loud e')
     where
@@ -68,26 +76,26 @@ module _ (rows x : ℕ) (tr : Transport) (set : RequestRto) where
       g = transmits_went rows x tr set now h.1 a m o h.0 last r f q
 
       alone : LeftAlone rows x u ts
-      alone = rw (round_run (round a b) rs c) at (alone_rest rows x w rs ts n)
+      alone =
+          polls_alone rows x ts b
+          (transmits_alone rows x (ps ++ ts) a (subst (LeftAlone rows x w) (append_assoc as' ps ts) n))
 
-      timed_in : timeouts rows x w rs ≡ timeouts rows x v ps
-      timed_in =
-          sym (timeouts_bare rows x w rs) ∙ ap (timeouts rows x w) c
-          ∙ (timeouts_append rows x w as' ps ∙ rw (transmits_world a, g.untimed))
+      timed_in : timeouts rows x w (as' ++ ps) ≡ timeouts rows x v ps
+      timed_in = timeouts_append rows x w as' ps ∙ rw (transmits_world a, g.untimed)
 
       in_two : timeouts rows x v ps ++ timeouts rows x u ts ≡ []
       in_two =
           ap (λ (l : List ℕ). l ++ timeouts rows x u ts) (sym timed_in)
-          ∙ ap (λ (y : World). timeouts rows x w rs ++ timeouts rows x y ts) (sym (round_run (round a b) rs c))
-          ∙ sym (timeouts_append rows x w rs ts) ∙ e
+          ∙ ap (λ (y : World). timeouts rows x w (as' ++ ps) ++ timeouts rows x y ts) (sym (round_world (round a b)))
+          ∙ sym (timeouts_append rows x w (as' ++ ps) ts) ∙ e
 
-      world_is : run rows w (rs ++ ts) ≡ run rows u ts
-      world_is = run_append rows w rs ts ∙ ap (λ (y : World). run rows y ts) (round_run (round a b) rs c)
+      world_is : run rows w ((as' ++ ps) ++ ts) ≡ run rows u ts
+      world_is = run_append rows w (as' ++ ps) ts ∙ ap (λ (y : World). run rows y ts) (round_world (round a b))
 
       go : Outcome rows x tr set now h.1 g.clock g.request g.loud v ps u clock
           → (request_of (lookup x u.requests) ≡ some g.request → timeouts rows x u ts ≡ []
           → (y : StunRequestState) × (request_of (lookup x (run rows u ts).requests) ≡ some y))
-          → (y : StunRequestState) × (request_of (lookup x (run rows w (rs ++ ts)).requests) ≡ some y)
+          → (y : StunRequestState) × (request_of (lookup x (run rows w ((as' ++ ps) ++ ts)).requests) ≡ some y)
       go (stayed t l z k) ih =
           rw world_is (ih k (ap (λ (y : List ℕ). y ++ timeouts rows x u ts) (sym z) ∙ in_two))
       go (timed t z k) ih = absurd (let y : now ∷ [] ≡ [] = sym z ∙ nil_front _ _ in_two in let c : ◌≡◌ {A = ℕ} 0 1 = cc in omega arith)

@@ -13,7 +13,7 @@ use Rattle.model.specs.declared.Answer.{Answer}
 use Rattle.model.specs.declared.Answer.TheVariants as answer
 use Rattle.agent.specs.Said.{said_in, words_in}
 use Rattle.runs.specs.Run.{kind_in}
-use Rattle.runs.specs.Round.{plays}
+use Rattle.runs.specs.Round.{transmission, poll, plays}
 use Rattle.runs.specs.Demand.{Submission, submits}
 use Rattle.hosted.specs.Session.{Owned, world_in, Calls, Submitted, saw}
 use Rattle.hosted.specs.Rounds.{Plays}
@@ -47,16 +47,9 @@ begun = record {
 abbrev pub asked : Submission
 asked = record { to = peer 9; now = 0; bytes = request 1 }
 
--- Then a round at the same clock, whose calls are handed the bytes that lie in the host's receive buffer; and a response from another
--- address than the one asked.
-abbrev pub transmission : Turn
-transmission = with (call.PollTransmit 0) (success 1)
-
-abbrev pub poll : Turn
-poll = with (call.Poll 0) (success 1)
-
+-- Then a round at the same clock, and a response from another address than the one asked.
 abbrev pub round : List Turn
-round = transmission ∷ poll ∷ []
+round = transmission 0 ∷ poll 0 ∷ []
 
 abbrev pub response : Turn
 response = with (call.HandleStunMessage (peer 5)) (success 1)
@@ -66,10 +59,10 @@ abbrev pub sent : Owned
 sent = after begun (submits asked)
 
 abbrev pub transmitted : Owned
-transmitted = after sent transmission
+transmitted = after sent (transmission 0)
 
 abbrev pub polled : Owned
-polled = after transmitted poll
+polled = after transmitted (poll 0)
 
 pub record Values : Type 0 where
   pub session : Submitted 1 (unset Udp) zeroed begun [] asked round

@@ -1,41 +1,35 @@
 -- A host that plays rounds, by the calls that it made and the answers that it saw; and demand 3 in its words.
-use Rattle.std.specs.Prelude.{ℕ, ◌^◌, ◌≤◌, ◌<◌, max, ◌≡◌, Bool, true, false, ◌&&◌, List, [], ◌∷◌, ◌++◌, eqb, length}
-use Rattle.std.proofs.Math.Option.{some}
+use Rattle.std.specs.Prelude.{ℕ, ◌≤◌, ◌≡◌, Bool, true, false, ◌&&◌, List, [], ◌∷◌, ◌++◌, eqb, length}
 use Rattle.message.specs.Head.{key}
 use Rattle.message.specs.Attributes.{message_of}
 use Rattle.stats.specs.declared.StunAgentStats.{StunAgentStats}
-use Rattle.request.specs.Times.{is_due, moment_of}
-use Rattle.request.specs.declared.StunRequestState.{StunRequestState}
-use Rattle.model.specs.Calls.{submits as submits-to, sends, receives, Kind, carries, scans, names, meets, counts, settings_of}
+use Rattle.model.specs.Calls.{submits as submits-to, sends, receives, Kind, carries, scans, names, meets, counts}
 use Rattle.model.specs.Accepts.{on_message}
 use Rattle.model.specs.Says.{number_in}
-use Rattle.model.specs.Runs.{Turn, with}
+use Rattle.model.specs.Runs.{Turn}
 use Rattle.model.specs.declared.StunAgentBuilder.{StunAgentBuilder}
-use Rattle.model.specs.declared.Call.TheVariants as call
 use Rattle.model.specs.declared.Answer.{Answer}
 use Rattle.model.specs.declared.Answer.TheVariants as answer
 use Rattle.runs.specs.Answers.{is_yes}
 use Rattle.runs.specs.Run.{kind_in, hands_out, alters}
-use Rattle.runs.specs.Round.{is_report, Step, calls, plays, is_scan}
+use Rattle.runs.specs.Round.{transmission, poll, is_report, Step, calls, plays, is_scan}
 use Rattle.runs.specs.Times.{NoLater}
 use Rattle.runs.specs.Demand.{Steady, Submission, submits, most, Spaced}
-use Rattle.runs.specs.Last.{Positive, PositiveIf}
 use Rattle.runs.specs.Counts.{Exchange}
 use Rattle.runs.specs.Ends.{responds_to}
-use Rattle.runs.specs.Samples.{left_by}
-use Rattle.hosted.specs.Session.{Owned, Serves, sent_in, timed_out_at, Submitted}
+use Rattle.hosted.specs.Session.{Owned, sent_in, timed_out_at, Submitted}
 
--- "Takes transmissions until none is left". `entry::call` takes bytes with every call: m are any, such as the host's receive buffer.
+-- "Takes transmissions until none is left",
 pub data Transmissions (now : ℕ) : List Turn → List Answer → Type 0 where
-  none_left : {m : List ℕ} → Transmissions now (with (call.PollTransmit now) m ∷ []) (answer.None ∷ [])
-  one_more : {m : List ℕ} {a : Answer} {ts : List Turn} {l : List Answer} → hands_out a ≡ true → Transmissions now ts l
-      → Transmissions now (with (call.PollTransmit now) m ∷ ts) (a ∷ l)
+  none_left : Transmissions now (transmission now ∷ []) (answer.None ∷ [])
+  one_more : {a : Answer} {ts : List Turn} {l : List Answer} → hands_out a ≡ true → Transmissions now ts l
+      → Transmissions now (transmission now ∷ ts) (a ∷ l)
 
--- "Then polls until told to wait": until that clock.
+-- "then polls until told to wait": until that clock.
 pub data Reports (now : ℕ) : List Turn → List Answer → ℕ → Type 0 where
-  told_to_wait : {m : List ℕ} {clock : ℕ} → Reports now (with (call.Poll now) m ∷ []) (answer.Wait clock ∷ []) clock
-  one_report : {m : List ℕ} {a : Answer} {ts : List Turn} {l : List Answer} {clock : ℕ} → is_report a ≡ true → Reports now ts l clock
-      → Reports now (with (call.Poll now) m ∷ ts) (a ∷ l) clock
+  told_to_wait : {clock : ℕ} → Reports now (poll now ∷ []) (answer.Wait clock ∷ []) clock
+  one_report : {a : Answer} {ts : List Turn} {l : List Answer} {clock : ℕ} → is_report a ≡ true → Reports now ts l clock
+      → Reports now (poll now ∷ ts) (a ∷ l) clock
 
 -- "Transmissions and polls only in rounds."
 pub data Played : List Step → List Turn → List Answer → Type 0 where
@@ -86,27 +80,3 @@ pub record NeverLater (x : ℕ) (b : StunAgentBuilder) (l l' : List Exchange) : 
   -- "each send the first run makes, and its timeout, comes no later in the second"
   pub each_send_no_later : NoLater (sent_in x l') (sent_in x l)
   pub timeout_no_later : NoLater (timed_out_at x l') (timed_out_at x l)
-
--- ---- its last sentence
-
--- No call that wasn't refused set an initial or a maximum of zero.
-abbrev pub NoZeroSeen : List Exchange → Type 0
-NoZeroSeen [] = Unit {0}
-NoZeroSeen (e ∷ l) = (number_in e.answer ≡ 0 → PositiveIf (settings_of e.about)) × NoZeroSeen l
-
--- "The wait that ends a round": what holds of a host that saw l from the start of its session, at last a round at `now` that told it to
--- wait until `clock`, and that owns o then. `left_by .. l x` is the request x as those calls and answers left it.
-pub record WaitKept (b : StunAgentBuilder) (l : List Exchange) (now clock : ℕ) (o : Owned) : Type 0 where
-  -- "lies after its clock unless an initial or max of zero was set"
-  pub after_unless_zero : Positive b.rto → NoZeroSeen l → now < clock
-  -- "or a request whose retransmissions were cancelled has a step still due"
-  pub after_unless_silenced :
-      ((x : ℕ) (r : StunRequestState) → left_by b.transport b.rto l x ≡ some r → r.send_cancelled ≡ true → is_due b.transport now r ≡ false)
-      → now < clock
-  -- It is at most the next moment of each request outstanding: its next send, or its end.
-  pub at_most : (x : ℕ) (r : StunRequestState) → left_by b.transport b.rto l x ≡ some r → clock ≤ max now (moment_of b.transport now r)
-  -- "a round before it, with no other call between, sends and reports nothing". The wait that such a round ends with is no earlier, so that
-  -- any number of them, one after the other, do nothing.
-  pub nothing_before : (soon again : ℕ) (rs ps : List Turn) (k j : List Answer) (o' : Owned) → now ≤ soon → soon < clock → soon ≤ 2 ^ 60
-      → Transmissions soon rs k → Reports soon ps j again → Serves o (rs ++ ps) (k ++ j) o'
-      → (k ≡ answer.None ∷ []) × (j ≡ answer.Wait again ∷ []) × (clock ≤ again)

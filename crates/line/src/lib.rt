@@ -1,6 +1,8 @@
 // Answers as lines of text: document 01, "Replay program". Every function puts some text into a lent buffer at a place and answers the
 // next place. Bytes that pass the end of the buffer are left out, and the place then is one past the end: whoever asked sees that the
 // text didn't fit, and no line needs a bound on its length.
+#![tactic(auto)]
+
 ghost use Rattle.std.specs.Prelude.{◌≡◌, ◌+◌, ◌≤◌, ◌<◌, ◌++◌, ◌∷◌, [], length};
 ghost use Rattle.line.specs.Lines.{Puts, glyph, decimal_of, digits, id_text, field_of, rtt_text, integrity_text, stats_text, answer_text, reply_text, line_of};
 
@@ -12,7 +14,7 @@ use stats::{Rtt, StunAgentStats};
 pub const LONGEST_LINE: usize = 321;
 
 // What a line says: the agent's answer, or `bad`.
-#[derive(Drop)]
+#[derive(Clone, Copy)]
 pub enum Reply {
     Told(Answer),
     Bad,

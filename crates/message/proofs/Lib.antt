@@ -3,5 +3,4 @@ pub mod Identifiers
 pub mod Classes
 mod Heads
 pub mod Messages
-pub mod Integrities
-pub mod Walks
+mod Walks

@@ -10,8 +10,7 @@ use lib.ListN.{length, get_or, drop, length-drop, drop_of_length-le}
 use lib.Seq.{drop-cons, drop-drop}
 use borrow.Author.Tests.{le-leb, lt-leb}
 use Rattle.wire.specs.Wire.{be16}
-use Rattle.message.specs.Attributes.{padded, next_of, step_at, Tlv, Attributes, those, cut, with_tlv, attributes_from, integrity_after, walk_with}
-use Rattle.message.proofs.Integrities.{integrity_step}
+use Rattle.message.specs.Attributes.{padded, next_of, step_at, Tlv, Attributes, those, cut, with_tlv, attributes_from, later, walk_with}
 use Rattle.message.specs.declared.Step.TheVariants.{Attribute, Past, End}
 use Rattle.message.specs.declared.Integrity.{Integrity}
 use Rattle.message.specs.declared.Walk.TheVariants.{Whole, Cut}
@@ -92,15 +91,15 @@ module _ (s : List ℕ) (at : ℕ) where
       (le_or_lt (at + 4) (length s))
 
 -- An attribute passed is one more that has been looked at.
-walk_more : (i : Integrity) (t : Tlv) (ts : Attributes) → walk_with i (with_tlv t ts) ≡ walk_with (integrity_after i t.kind) ts
-walk_more i t (those ts) = ap Whole (integrity_step i t ts)
+walk_more : (i : Integrity) (t : Tlv) (ts : Attributes) → walk_with i (with_tlv t ts) ≡ walk_with (later i t.kind) ts
+walk_more i t (those ts) = refl
 walk_more i t cut = refl
 
 -- An attribute of type k, with the next place: nearer to the end, not past it, and the walk goes on there with the type looked at.
 pub record Stepped (s : List ℕ) (at : ℕ) (i : Integrity) (k next : ℕ) : Type 0 where
   pub on : at < next
   pub within : next ≤ length s
-  pub same : walk_with i (attributes_from (drop at s) at 0) ≡ walk_with (integrity_after i k) (attributes_from (drop next s) next 0)
+  pub same : walk_with i (attributes_from (drop at s) at 0) ≡ walk_with (later i k) (attributes_from (drop next s) next 0)
 
 -- What the walk is at a place: at the end, where an attribute stands, and where none does.
 module _ (s : List ℕ) (at : ℕ) (i : Integrity) where

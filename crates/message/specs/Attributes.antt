@@ -1,5 +1,5 @@
 -- The attributes of a STUN message, and a whole message: RFC 8489, section 14. They start behind the head of twenty bytes.
-use Rattle.std.specs.Prelude.{ℕ, zero, suc, ◌+◌, ◌*◌, ◌/◌, List, [], ◌∷◌, Bool, true, false, cond, ◌||◌, length, drop, leb, eqb}
+use Rattle.std.specs.Prelude.{ℕ, zero, suc, ◌+◌, ◌*◌, ◌/◌, List, [], ◌∷◌, Bool, false, cond, length, drop, leb, eqb}
 use Rattle.wire.specs.Wire.{be16}
 use Rattle.message.specs.Head.{head_of}
 use Rattle.message.specs.declared.Head.{Head}
@@ -65,56 +65,20 @@ has_type None k = false
 has_type Sha1 k = eqb k 0x0008
 has_type Sha256 k = eqb k 0x001C
 
--- Whether an attribute of that type is among some, and how many of either type are, wherever they stand.
-abbrev pub has : Integrity → List Tlv → Bool
-has i [] = false
-has i (t ∷ ts) = has_type i t.kind || has i ts
-
-abbrev pub integrities : List Tlv → ℕ
-integrities [] = 0
-integrities (t ∷ ts) = cond (has_type Sha1 t.kind || has_type Sha256 t.kind) 1 0 + integrities ts
-
--- FINGERPRINT's type (section 14.7).
-abbrev pub is_fingerprint : ℕ → Bool
-is_fingerprint k = eqb k 0x8028
-
--- Whether an attribute of type k counts, where i is the last of the two integrity types that counted before it. Behind MESSAGE-INTEGRITY
--- all are ignored but MESSAGE-INTEGRITY-SHA256 and FINGERPRINT (section 14.5), behind MESSAGE-INTEGRITY-SHA256 all but FINGERPRINT
--- (section 14.6).
-abbrev pub counts_behind : Integrity → ℕ → Bool
-counts_behind None k = true
-counts_behind Sha1 k = has_type Sha256 k || is_fingerprint k
-counts_behind Sha256 k = is_fingerprint k
-
--- The last of the two types behind an attribute of type k, where i is the last before it.
+-- What counts after an attribute of type k, where i counted before it.
 unfoldable pub later : Integrity → ℕ → Integrity
 later i k = cond (has_type Sha1 k) Sha1 (cond (has_type Sha256 k) Sha256 i)
 
--- The last of the two types behind some attributes, where i is the last before them.
-abbrev pub last_type : Integrity → List Tlv → Integrity
-last_type i [] = i
-last_type i (t ∷ ts) = last_type (later i t.kind) ts
-
--- Those of some attributes that count, in order, where i is the last of the two types that counted before them: None, for all attributes
--- of a message. One that is ignored is passed by; it doesn't end the walk.
-abbrev pub counting_behind : Integrity → List Tlv → List Tlv
-counting_behind i [] = []
-counting_behind i (t ∷ ts) = cond (counts_behind i t.kind) (t ∷ counting_behind (later i t.kind) ts) (counting_behind i ts)
-
--- The integrity behind some attributes, where i is that before them: the last of the two types among those that count.
-abbrev pub integrity_behind : Integrity → List Tlv → Integrity
-integrity_behind i ts = last_type i (counting_behind i ts)
-
--- The same one attribute at a time: the integrity behind one of type k, where i is that before it.
-unfoldable pub integrity_after : Integrity → ℕ → Integrity
-integrity_after i k = cond (counts_behind i k) (later i k) i
+-- What counts after some attributes, where i counted before them.
+abbrev pub integrity_from : Integrity → List Tlv → Integrity
+integrity_from i [] = i
+integrity_from i (t ∷ ts) = integrity_from (later i t.kind) ts
 
 abbrev pub walk_with : Integrity → Attributes → Walk
-walk_with i (those ts) = Whole (integrity_behind i ts)
+walk_with i (those ts) = Whole (integrity_from i ts)
 walk_with i cut = Cut
 
--- The integrity of a message. Document 01 takes the last of the two types on the walk over all attributes; document 02, W-204, the last
--- among those that count.
+-- Document 01: the integrity of a message is "the last of the two types found on the walk over all attributes".
 unfoldable pub walk_of : List ℕ → Walk
 walk_of s = walk_with None (attributes_of s)
 

@@ -1,17 +1,19 @@
 // STUN messages (RFC 8489, sections 5 and 14): what stun-types reads for the Rust. Every reader takes any bytes; its promise is an
 // equation with a definition of specs/.
+#![tactic(auto)]
+
 ghost use Rattle.std.specs.Prelude.{◌≡◌, ◌+◌, ◌≤◌, length, ltb, eqb};
 ghost use Rattle.message.specs.Head.{key, id_at, class_of, method_of, head_of};
-ghost use Rattle.message.specs.Attributes.{padded, step_at, counts_behind, integrity_after, walk_of, message_of};
+ghost use Rattle.message.specs.Attributes.{padded, step_at, later, walk_of, message_of};
 
 // `hi` is the first 4 bytes, `lo` the last 8.
-#[derive(Drop)]
+#[derive(Clone, Copy)]
 pub struct TransactionId {
     pub hi: u32,
     pub lo: u64,
 }
 
-#[derive(Drop)]
+#[derive(Clone, Copy)]
 pub enum MessageClass {
     Request,
     Indication,
@@ -19,7 +21,7 @@ pub enum MessageClass {
     Error,
 }
 
-#[derive(Drop)]
+#[derive(Clone, Copy)]
 pub struct MessageHeader {
     pub class: MessageClass,
     pub method: u16,
@@ -27,7 +29,7 @@ pub struct MessageHeader {
     pub length: u16,
 }
 
-#[derive(Drop)]
+#[derive(Clone, Copy)]
 pub enum Head {
     Good(MessageHeader),
     Bad,
@@ -35,7 +37,7 @@ pub enum Head {
 
 // What stands at a place of the attributes: an attribute, whose value starts at `start`, and the place of the next one; one that passes
 // the end of the message; or nothing more.
-#[derive(Drop)]
+#[derive(Clone, Copy)]
 pub enum Step {
     Attribute {
         kind: u16,
@@ -48,20 +50,20 @@ pub enum Step {
 }
 
 // `Option<IntegrityAlgorithm>` in the Rust.
-#[derive(Drop)]
+#[derive(Clone, Copy)]
 pub enum Integrity {
     None,
     Sha1,
     Sha256,
 }
 
-#[derive(Drop)]
+#[derive(Clone, Copy)]
 pub enum Walk {
     Whole(Integrity),
     Cut,
 }
 
-#[derive(Drop)]
+#[derive(Clone, Copy)]
 pub struct Message {
     pub class: MessageClass,
     pub method: u16,
@@ -69,7 +71,7 @@ pub struct Message {
     pub integrity: Integrity,
 }
 
-#[derive(Drop)]
+#[derive(Clone, Copy)]
 pub enum Parsed {
     Good(Message),
     Bad,
@@ -194,41 +196,15 @@ pub fn attribute_at(s: &[u8], at: usize) -> Step
     }
 }
 
-// Types of attributes (RFC 8489, 14.5 to 14.7).
-const MESSAGE_INTEGRITY: u16 = 0x0008;
-
-const MESSAGE_INTEGRITY_SHA256: u16 = 0x001C;
-
-const FINGERPRINT: u16 = 0x8028;
-
-// Whether an attribute of this type counts, where `found` is the integrity of those before it.
-pub fn counts(found: Integrity, kind: u16) -> bool
-    ensures { result ≡ counts_behind found kind }
+// What counts once an attribute of this type is passed.
+fn after(found: Integrity, kind: u16) -> Integrity
+    ensures { result ≡ later found kind }
 {
-    match found {
-        Integrity::None => true,
-        Integrity::Sha1 => {
-            if kind == MESSAGE_INTEGRITY_SHA256 {
-                true
-            } else {
-                kind == FINGERPRINT
-            }
-        }
-        Integrity::Sha256 => kind == FINGERPRINT,
+    if kind == 0x0008 {
+        return Integrity::Sha1;
     }
-}
-
-// The integrity once an attribute of this type is passed.
-pub fn after(found: Integrity, kind: u16) -> Integrity
-    ensures { result ≡ integrity_after found kind }
-{
-    if counts(found, kind) {
-        if kind == MESSAGE_INTEGRITY {
-            return Integrity::Sha1;
-        }
-        if kind == MESSAGE_INTEGRITY_SHA256 {
-            return Integrity::Sha256;
-        }
+    if kind == 0x001C {
+        return Integrity::Sha256;
     }
     found
 }

@@ -19,10 +19,9 @@ use Rattle.stats.specs.declared.Event.TheVariants as event
 use Rattle.store.specs.Rows.{copied}
 use Rattle.request.specs.Times.{rtt_of}
 use Rattle.request.specs.Request.{submitted, silenced, cancelled, configured}
-use Rattle.request.specs.Answers.{counted_as}
 use Rattle.request.specs.declared.StunRequestState.{StunRequestState}
 use Rattle.requests.specs.Search.{lookup, added, free_row}
-use Rattle.requests.specs.Scan.{walk, answer_in, poll_all}
+use Rattle.requests.specs.Scan.{walk, poll_all}
 use Rattle.requests.specs.declared.Found.{Found}
 use Rattle.requests.specs.declared.Found.TheVariants.{At, Nothing}
 use Rattle.requests.specs.declared.FreeRow.{FreeRow}
@@ -203,7 +202,9 @@ transmit_event Quiet = event.Nothing
 
 -- "Cancelled counts when poll reports it."
 abbrev pub poll_event : Polled → Event
-poll_event p = counted_as (answer_in p)
+poll_event (TimedOut place id) = event.TimedOut
+poll_event (Cancelled place id) = event.Cancelled
+poll_event (WaitUntil clock) = event.Nothing
 
 abbrev pub scan_event : World → Scan → ℕ → Event
 scan_event w transmits now = transmit_event (walk w.agent.transport now w.requests).out

@@ -1,15 +1,17 @@
 -- When a call is refused, and by which number: document 01, "Refusal numbers". Each predicate says what the table's line says and
 -- nothing of the others; "where several apply, the lowest number is answered".
-use Rattle.std.specs.Prelude.{ℕ, ◌^◌, Bool, true, false, cond, not, ◌&&◌, ◌||◌, List, [], ◌∷◌, leb, ltb, eqb, length}
+use Rattle.std.specs.Prelude.{ℕ, ◌^◌, Bool, true, false, cond, not, ◌&&◌, ◌||◌, List, [], ◌∷◌, leb, ltb, length}
 use Rattle.message.specs.Attributes.{message_of}
 use Rattle.message.specs.declared.MessageClass.{MessageClass}
 use Rattle.message.specs.declared.MessageClass.TheVariants.{Request, Indication, Success, Error}
 use Rattle.waits.specs.Waits as waits
-use Rattle.stats.specs.Query.{outstanding_of, outstanding_refusal}
+use Rattle.stats.specs.Query.{outstanding_of}
 use Rattle.stats.specs.declared.Outstanding.{Outstanding}
+use Rattle.stats.specs.declared.Outstanding.TheVariants.{Count, BelowZero}
 use Rattle.model.specs.World.{World, state_formed}
-use Rattle.model.specs.Calls.{Passage, submits, sends, receives, Figure, numbers, mean, unsettled, anew, Kind, clock_of, settings_of, id_of, passage_of, figure_of, on_some}
+use Rattle.model.specs.Calls.{Passage, submits, sends, receives, Figure, numbers, mean, unsettled, anew, Kind, kind_of, clock_of, settings_of, id_of, passage_of, figure_of, on_some}
 use Rattle.model.specs.Accepts.{on_message, is_outstanding, new_peer}
+use Rattle.model.specs.declared.Call.{Call}
 
 -- Document 01's names, and the number of each.
 pub data Refusal : Type 0 where
@@ -109,7 +111,8 @@ is_unsettled unsettled = true
 is_unsettled anew = false
 
 abbrev pub is_below_zero : Outstanding → Bool
-is_below_zero o = eqb (outstanding_refusal o) (number_of COUNTS)
+is_below_zero (Count n) = false
+is_below_zero BelowZero = true
 
 -- 12: "the query for the outstanding count finds it below zero"
 abbrev pub bad_counts : World → Kind → Bool
@@ -148,3 +151,6 @@ refusal_of rows w k m = lowest (holds rows w k m) refusals
 
 unfoldable pub refusal_past : ℕ → World → Kind → List ℕ → ℕ
 refusal_past rows w k m = lowest (holds rows w k m) past_state
+
+abbrev pub refusal : ℕ → World → Call → List ℕ → ℕ
+refusal rows w c m = refusal_of rows w (kind_of c) m

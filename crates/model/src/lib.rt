@@ -4,6 +4,8 @@
 //
 // The agent's plain types: `StunAgent` and its builder, its calls and their answers. There is no code here: specs/ says of a world, a
 // call and a message what the answer is and which world is left, and proofs/ has the theorems. The agent's code is held to it.
+#![tactic(auto)]
+
 use address::Address;
 use message::{Integrity, TransactionId};
 use stats::{Event, Rtt, StunAgentStats};
@@ -12,7 +14,7 @@ use waits::{RequestRto, Transport};
 // The requests lie in the table that the host lends, the peers in its list, and the statistics in its record: here are how many there
 // are of either, and whether statistics are on. `rto` stands for the Rust's `request_timeouts` and `last_retransmit_timeout`; `mark`
 // is the highest clock that an unrefused call carried.
-#[derive(Drop)]
+#[derive(Clone, Copy)]
 pub struct StunAgent {
     pub transport: Transport,
     pub stats: bool,
@@ -22,7 +24,7 @@ pub struct StunAgent {
     pub peers: usize,
 }
 
-#[derive(Drop)]
+#[derive(Clone, Copy)]
 pub struct StunAgentBuilder {
     pub transport: Transport,
     pub rto: RequestRto,
@@ -30,14 +32,14 @@ pub struct StunAgentBuilder {
 }
 
 // What `build` answers: refused with its number, or a fresh agent with the event that zeroes the record.
-#[derive(Drop)]
+#[derive(Clone, Copy)]
 pub enum Built {
     Refused(u64),
     Fresh { agent: StunAgent, event: Event },
 }
 
 // The Rust's methods, those of `StunRequestMut` with the identifier. Four of them come with the bytes of a message.
-#[derive(Drop)]
+#[derive(Clone, Copy)]
 pub enum Call {
     SendRequest {
         to: Address,
@@ -91,7 +93,7 @@ pub enum Call {
     Reset,
 }
 
-#[derive(Drop)]
+#[derive(Clone, Copy)]
 pub enum Answer {
     Refused(u64),
     Ok,

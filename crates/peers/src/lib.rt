@@ -1,5 +1,7 @@
 // The list of peer addresses that the host lends: the Rust's `validated_peers`, a set, is a slice of which the first so many are in use.
 // The two functions over it are thin, and proved by walks of their MIR.
+#![tactic(auto)]
+
 ghost use Rattle.std.specs.Prelude.{◌≡◌, ◌||◌, min, set, take};
 ghost use Rattle.address.specs.Address.{same_address};
 ghost use Rattle.peers.specs.Peers.{listed};

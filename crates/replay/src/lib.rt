@@ -1,4 +1,6 @@
 // A replay: the records of a trace go to an agent, and each answer makes a line. Document 01, "Replay program".
+#![tactic(auto)]
+
 ghost use Rattle.std.specs.Prelude.{◌≡◌, ◌-◌, ◌≤◌, ◌++◌, length, take, replicate};
 ghost use Rattle.replay.specs.Runs.{Lined, Replays};
 ghost use Rattle.replay.specs.Lent.{Plays, Begins, first_standing};
@@ -12,14 +14,14 @@ use stats::StunAgentStats;
 use waits::{RequestRto, Transport};
 
 // Whether there is an agent yet, and what is carried from record to record; table and store are lent.
-#[derive(Drop)]
+#[derive(Clone, Copy)]
 pub struct Standing {
     pub on: bool,
     pub held: Held,
 }
 
 // What a record does: where the replay stands then, what its line says, how many bytes it took, and whether another may follow.
-#[derive(Drop)]
+#[derive(Clone, Copy)]
 pub struct Turn {
     pub standing: Standing,
     pub reply: Reply,

@@ -4,6 +4,8 @@
 //
 // One outstanding request: `StunRequestState` of agent.rs, with what `StunRequestMut` does to it. Clocks are whole nanoseconds.
 // The transport is the agent's and comes in with each call: every record of the Rust holds the same one.
+#![tactic(auto)]
+
 ghost use Rattle.std.specs.Prelude.{◌≡◌, ◌&&◌, ◌^◌, ◌≤◌};
 ghost use Rattle.request.specs.Times.{passed_all, next_of, rtt_of};
 ghost use Rattle.request.specs.Request.{new_request, submitted, with_times, stepped, silenced, cancelled, configured, transmit_of, poll_of};
@@ -15,7 +17,7 @@ use stats::Rtt;
 use waits::{RequestRto, Transport};
 
 // `first_send_time` and `last_send_time`: both absent or both present.
-#[derive(Drop)]
+#[derive(Clone, Copy)]
 pub enum SendTimes {
     Never,
     Sent { first: u64, last: u64 },
@@ -23,7 +25,7 @@ pub enum SendTimes {
 
 // `row` and `len` stand for the Rust's `bytes`, which lie in the lent store; `rto` for `timeouts` and `last_retransmit_timeout`, which
 // are worked out from it. The local address and the transport are the agent's.
-#[derive(Drop)]
+#[derive(Clone, Copy)]
 pub struct StunRequestState {
     pub transaction_id: TransactionId,
     pub request_integrity: Integrity,
@@ -38,13 +40,13 @@ pub struct StunRequestState {
 }
 
 // `Option<Instant>` of `next_send_time`.
-#[derive(Drop)]
+#[derive(Clone, Copy)]
 pub enum NextSend {
     At(u64),
     Ended,
 }
 
-#[derive(Drop)]
+#[derive(Clone, Copy)]
 pub enum StunRequestPollRet {
     WaitUntil(u64),
     Cancelled,
@@ -52,7 +54,7 @@ pub enum StunRequestPollRet {
 }
 
 // `Option<Transmit>` of `poll_transmit`, with the record after it: a silent step changes the record and sends nothing.
-#[derive(Drop)]
+#[derive(Clone, Copy)]
 pub enum StunRequestTransmit {
     Rests,
     Passes(StunRequestState),

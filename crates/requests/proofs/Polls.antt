@@ -25,7 +25,7 @@ use Rattle.request.specs.declared.StunRequestPollRet.{StunRequestPollRet}
 use Rattle.request.specs.declared.StunRequestPollRet.TheVariants.{WaitUntil, Cancelled, TimedOut}
 use Rattle.request.proofs.Answers.{wait_clock_lem}
 use Rattle.requests.specs.Search.{key_of, keys_of, lookup}
-use Rattle.requests.specs.Scan.{hour, report_of, reached, poll_from, poll_all}
+use Rattle.requests.specs.Scan.{hour, reached, poll_from, poll_all}
 use Rattle.requests.specs.Formed.{Ascending}
 use Rattle.requests.specs.declared.Found.TheVariants.{At, Nothing}
 use Rattle.requests.specs.declared.Polled.{Polled}
@@ -37,6 +37,12 @@ use Rattle.requests.proofs.Search.{found_at, none_exactly, among_placed, placed_
 abbrev pub NoneEnds : Transport → ℕ → List StunRequestState → Type 0
 NoneEnds t now [] = Unit
 NoneEnds t now (r ∷ rs) = (ends (poll_of t now r) ≡ false) × NoneEnds t now rs
+
+-- the answer of one request at place i, as an answer of the scan
+abbrev pub report_of : StunRequestPollRet → ℕ → TransactionId → Polled
+report_of (WaitUntil clock) i id = Waits clock
+report_of Cancelled i id = Cancels i id
+report_of TimedOut i id = TimesOut i id
 
 -- one place further on
 abbrev onward : Polled → Polled

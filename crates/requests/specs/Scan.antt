@@ -1,10 +1,8 @@
 -- The two scans up the identifiers: document 01, "The agent".
-use Rattle.std.specs.Prelude.{ℕ, ◌+◌, min, cond, List, [], ◌∷◌, ◌++◌}
-use Rattle.message.specs.declared.TransactionId.{TransactionId}
+use Rattle.std.specs.Prelude.{ℕ, ◌+◌, min, List, [], ◌∷◌, ◌++◌}
 use Rattle.waits.specs.Waits.{milliseconds}
 use Rattle.waits.specs.declared.Transport.{Transport}
 use Rattle.request.specs.Request.{transmit_of, poll_of}
-use Rattle.request.specs.Answers.{ends, wait_clock}
 use Rattle.request.specs.declared.StunRequestState.{StunRequestState}
 use Rattle.request.specs.declared.StunRequestTransmit.{StunRequestTransmit}
 use Rattle.request.specs.declared.StunRequestTransmit.TheVariants.{Rests, Passes, Goes}
@@ -45,21 +43,12 @@ walk t now l = walk_by (λ r. r) (λ r. r) t now l
 abbrev pub hour : ℕ
 hour = milliseconds 3600000
 
--- The answer of one request at place i, as an answer of the scan; and back.
-abbrev pub report_of : StunRequestPollRet → ℕ → TransactionId → Polled
-report_of (WaitUntil clock) i id = Waits clock
-report_of Cancelled i id = Cancels i id
-report_of TimedOut i id = TimesOut i id
-
-abbrev pub answer_in : Polled → StunRequestPollRet
-answer_in (TimesOut place id) = TimedOut
-answer_in (Cancels place id) = Cancelled
-answer_in (Waits clock) = WaitUntil clock
-
 -- "`poll` answers with the first request in identifier order that timed out or was cancelled; else wait until the earliest due moment or
 -- end." The scan from place i on, where the earliest moment before it is `least`.
 abbrev pub reached : ℕ → ℕ → StunRequestState → StunRequestPollRet → (ℕ → Polled) → Polled
-reached i least r a next = cond (ends a) (report_of a i r.transaction_id) (next (min least (wait_clock least a)))
+reached i least r (WaitUntil clock) next = next (min least clock)
+reached i least r Cancelled next = Cancels i r.transaction_id
+reached i least r TimedOut next = TimesOut i r.transaction_id
 
 abbrev pub poll_from : Transport → ℕ → ℕ → ℕ → List StunRequestState → Polled
 poll_from t now i least [] = Waits least

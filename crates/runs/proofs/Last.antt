@@ -2,7 +2,7 @@
 --     Scans, the_scans               the two calls of a round, as the scans of the list
 --     transmits_rested, polls_earliest     the requests after a round, and its wait
 --     round_later                    the wait lies after the clock
---     round_idle, round_waits        a round before the wait sends and reports nothing, and its own wait is no earlier
+--     round_idle                     a round before the wait sends and reports nothing
 --     positive_run                   where no zero is set, no request has one
 --     last_sentence
 use Prim.Native.Nat.{ℕ, zero, suc, ◌+◌, ◌^◌, ◌≤◌, ◌<◌, max}
@@ -28,10 +28,9 @@ use Rattle.request.specs.declared.StunRequestState.{StunRequestState}
 use Rattle.request.specs.declared.StunRequestPollRet.TheVariants as poll-ret
 use Rattle.request.proofs.Answers.{goes_exactly, after_exactly, ends_exactly, wait_clock_lem}
 use Rattle.request.proofs.Kept.{settings_transmit, rto_silenced, rto_cancelled, rto_configured}
-use Rattle.request.proofs.Moments.{moment_later, ahead, Between, still_ahead}
-use Rattle.requests.specs.Search.{key_of, keys_of, lookup}
+use Rattle.request.proofs.Moments.{ahead, Between, still_ahead}
+use Rattle.requests.specs.Search.{lookup}
 use Rattle.requests.specs.Scan.{hour, Walk, walk, poll_all}
-use Rattle.requests.specs.Formed.{Ascending}
 use Rattle.requests.specs.declared.Found.{Found}
 use Rattle.requests.specs.declared.Found.TheVariants.{At, Nothing}
 use Rattle.requests.specs.declared.Transmitted.{Transmitted}
@@ -39,7 +38,7 @@ use Rattle.requests.specs.declared.Transmitted.TheVariants.{Sends, Quiet}
 use Rattle.requests.specs.declared.Polled.{Polled}
 use Rattle.requests.specs.declared.Polled.TheVariants.{TimedOut, Cancelled, WaitUntil}
 use Rattle.requests.proofs.Lists.{apart}
-use Rattle.requests.proofs.Search.{found_at, placed_found}
+use Rattle.requests.proofs.Search.{found_at}
 use Rattle.requests.proofs.Transmits.{NoneGoes, passed_by, walk_quiet, quiet_exactly}
 use Rattle.requests.proofs.Polls.{NoneEnds, Earliest, poll_waits, waits_exactly}
 use Rattle.model.specs.World.{World, StateFormed}
@@ -144,17 +143,6 @@ module _ (rows : ℕ) (tr : Transport) (set : RequestRto) (now : ℕ) (low : now
 
 -- ---- the wait lies after the clock
 
-abbrev NotSilentDue : Transport → ℕ → StunRequestState → Type 0
-NotSilentDue tr now r = r.send_cancelled ≡ true → is_due tr now r ≡ false
-
-collect : (P : StunRequestState → Type 0) (l : List StunRequestState) → ((i : ℕ) (r : StunRequestState) → get_elem? l i ≡ some r → P r) → All P l
-collect P [] f = tt
-collect P (r ∷ rs) f = (f 0 r refl, collect P rs (λ i q e. f (suc i) q e))
-
--- each request of an ascending list is found by its identifier
-each_silent : (tr : Transport) (now : ℕ) (l : List StunRequestState) → Ascending (keys_of l) → NoSilentDue tr now l → All (NotSilentDue tr now) l
-each_silent tr now l a h = collect (NotSilentDue tr now) l (λ i r e. h (key_of r) i r (placed_found i r l a e))
-
 module _ (tr : Transport) (now clock : ℕ) (l : List StunRequestState) (early : Earliest tr now (now + hour) l clock) where
   -- each request waits for its moment
   wait_is : (i : ℕ) (r : StunRequestState) → get_elem? l i ≡ some r → (c : ℕ) → poll_of tr now r ≡ poll-ret.WaitUntil c → c ≡ max now (moment_of tr now r)
@@ -162,7 +150,7 @@ module _ (tr : Transport) (now clock : ℕ) (l : List StunRequestState) (early :
       let z : wait_clock now (poll_of tr now r) ≡ max now (moment_of tr now r) = wait_clock_lem tr now r now (ap ends p) in
       rw p at z
 
-  round_later : All (Rested tr now) l → All (NotSilentDue tr now) l → now < clock
+  round_later : All (Rested tr now) l → NoSilentDue tr now l → now < clock
   round_later rest silent = go early.one_of
     where
       due : (r : StunRequestState) → Rested tr now r → (r.send_cancelled ≡ true → is_due tr now r ≡ false) → r.recv_cancelled ≡ false → is_due tr now r ≡ false
@@ -177,14 +165,14 @@ module _ (tr : Transport) (now clock : ℕ) (l : List StunRequestState) (early :
       go (inr y) =
           let r = y.1 in
           let s = staying tr now r (ap ends y.3) in
-          let d = due r (all_at (Rested tr now) l y.0 r rest y.2) (all_at (NotSilentDue tr now) l y.0 r silent y.2) s.kept in
+          let d = due r (all_at (Rested tr now) l y.0 r rest y.2) (all_at (λ r. r.send_cancelled ≡ true → is_due tr now r ≡ false) l y.0 r silent y.2) s.kept in
           omega (arith, ahead tr now r d s.waiting, wait_is y.0 r y.2 clock y.3)
 
   -- where no request has a wait of zero, none of them is a silenced one with a step still due
-  none_silent : All (Rested tr now) l → All (λ r. Positive r.rto) l → NoneEnds tr now l → All (NotSilentDue tr now) l
+  none_silent : All (Rested tr now) l → All (λ r. Positive r.rto) l → NoneEnds tr now l → NoSilentDue tr now l
   none_silent = go l
     where
-      go : (l : List StunRequestState) → All (Rested tr now) l → All (λ r. Positive r.rto) l → NoneEnds tr now l → All (NotSilentDue tr now) l
+      go : (l : List StunRequestState) → All (Rested tr now) l → All (λ r. Positive r.rto) l → NoneEnds tr now l → NoSilentDue tr now l
       go [] a p n = tt
       go (r ∷ rs) a p n = (λ _. a.0.positive (staying tr now r n.0).kept p.0, go rs a.1 p.1 n.1)
 
@@ -195,12 +183,16 @@ module _ (tr : Transport) (now clock : ℕ) (l : List StunRequestState) (early :
     stays : Staying tr now r
 
   all_asleep : (soon : ℕ) → now ≤ soon → soon < clock → All (Asleep soon) l
-  all_asleep soon a b = collect (Asleep soon) l (λ i r e.
+  all_asleep soon a b = collect l (λ i r e.
       let y = early.least i r e in
       record {
         between = still_ahead tr now soon r a (omega (arith, y.2, wait_is i r e y.0 y.1));
         stays = staying tr now r (ap ends y.1);
       })
+    where
+      collect : (k : List StunRequestState) → ((i : ℕ) (r : StunRequestState) → get_elem? k i ≡ some r → Asleep soon r) → All (Asleep soon) k
+      collect [] f = tt
+      collect (r ∷ rs) f = (f 0 r refl, collect rs (λ i q e. f (suc i) q e))
 
   none_goes : (soon : ℕ) (k : List StunRequestState) → All (Asleep soon) k → NoneGoes tr soon k
   none_goes soon [] h = tt
@@ -256,19 +248,6 @@ module _ (rows : ℕ) (tr : Transport) (set : RequestRto) (now clock : ℕ) (u :
 
   round_idle : (soon again : ℕ) (rs : List Turn) (v : World) → now ≤ soon → soon < clock → soon ≤ 2 ^ 60 → Round rows soon u rs v again → Idle rows soon u rs v
   round_idle soon again rs v a b low (round x y) = idle_transmits (sleeps soon a b low) x y
-
-  -- its own wait, by the same requests
-  round_waits : (soon again : ℕ) (rs : List Turn) (v : World) → now ≤ soon → soon < clock → soon ≤ 2 ^ 60 → Round rows soon u rs v again → clock ≤ again
-  round_waits soon again rs v a b low (round x y) = go late.one_of
-    where
-      late : Earliest tr soon (soon + hour) u.requests again
-      late = rw (round_idle soon again rs v a b low (round x y)).left at (polls_earliest rows tr set soon low y (ok_transmits x now a o))
-
-      go : (again ≡ soon + hour) ⊎ ((i : ℕ) × (r : StunRequestState) × (get_elem? u.requests i ≡ some r) × (poll_of tr soon r ≡ poll-ret.WaitUntil again)) → clock ≤ again
-      go (inl e) = omega (arith, early.capped)
-      go (inr z) =
-          let c = early.least z.0 z.1 z.2 in
-          omega (arith, c.2, wait_is tr now clock u.requests early z.0 z.1 z.2 c.0 c.1, wait_is tr soon again u.requests late z.0 z.1 z.2 again z.3, moment_later tr now soon z.1 a)
 
 -- ---- where no zero is set
 
@@ -355,13 +334,12 @@ last_sentence rows s ss before rs now clock u runs steady (round {v} a b) = reco
       let h = positive_run rows (begins s) before began p z tt in
       let k = polls_all rows tr set now low PositiveIn b mid (transmits_all rows tr set now low PositiveIn (walked_positive tr now) a at.floor at.steady.0 at.ok h) in
       round_later tr now clock u.requests early rest (none_silent tr now clock u.requests early rest k early.all_wait);
-  after_unless_silenced = λ h. round_later tr now clock u.requests early rest (each_silent tr now u.requests end.formed.requests.order h);
+  after_unless_silenced = round_later tr now clock u.requests early rest;
   at_most = λ x i r e.
       let p = (found_at x i r u.requests e).placed in
       let y = early.least i r p in
       omega (arith, y.2, wait_is tr now clock u.requests early i r p y.0 y.1);
-  nothing_before = round_idle rows tr set now clock u end early;
-  no_earlier = round_waits rows tr set now clock u end early;
+  nothing_before = round_idle rows tr set now clock u (ok_round (round a b) at.floor at.steady.0 at.ok) early;
 }
   where
     tr : Transport
@@ -381,9 +359,6 @@ last_sentence rows s ss before rs now clock u runs steady (round {v} a b) = reco
 
     mid : Ok rows s.transport s.rto now v
     mid = ok_transmits a at.floor at.steady.0 at.ok
-
-    end : Ok rows s.transport s.rto now u
-    end = ok_round (round a b) at.floor at.steady.0 at.ok
 
     rest : All (Rested s.transport now) u.requests
     rest = polls_all rows s.transport s.rto now low (Rested s.transport now) b mid (transmits_rested rows s.transport s.rto now low a at.floor at.steady.0 at.ok)

@@ -1,6 +1,5 @@
 -- Theorems about runs.
 pub mod Times
-pub mod Bare
 pub mod Steady
 pub mod Spared
 pub mod One

@@ -34,7 +34,6 @@ use Rattle.runs.specs.Run.{kind_in, said, hands_out}
 use Rattle.runs.specs.Round.{transmission, poll, is_report, Transmits, none_left, one_more, Polls, told_to_wait, one_report, Round, round, Step, calls, plays, is_scan, Runs, ends, then_call, then_round}
 use Rattle.runs.specs.Play.{transmissions_in, polls_in, left, left_in, transmissions, polls, round_of, played}
 use Rattle.runs.specs.Demand.{Steady}
-use Rattle.runs.proofs.Bare.{round_bare}
 use Rattle.runs.proofs.Steady.{Ok, next_ok, ok_transmits, ok_round, transmits_world, round_world}
 use Rattle.runs.proofs.Last.{the_scans}
 
@@ -209,4 +208,4 @@ runs_played {rows} {tr} {set} (calls t ∷ ss) m w o h n =
 runs_played {rows} {tr} {set} (plays now ∷ ss) m w o h n =
     let a = round_played rows tr set now h.1 m w h.0 o in
     let is : run rows w (round_of rows now w) ≡ a.0 = round_world a.2 in
-    then_round (round_of rows now w) a.2 (round_bare a.2) (subst (λ (z : World). Runs rows a.0 ss (played rows z ss)) (sym is) (runs_played ss now a.0 (ok_round a.2 m h.0 o) h.2 n))
+    then_round a.2 (subst (λ (z : World). Runs rows a.0 ss (played rows z ss)) (sym is) (runs_played ss now a.0 (ok_round a.2 m h.0 o) h.2 n))

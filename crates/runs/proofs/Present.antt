@@ -6,7 +6,7 @@
 use Prim.Native.Nat.{ℕ, ◌+◌, ◌^◌, ◌≤◌, zero, suc}
 use mathlib.Core.Path.{◌≡◌, refl, sym, ap, ◌∙◌, subst}
 use mathlib.Core.Bool.{true, false, and-false}
-use mathlib.Core.List.{List, [], ◌∷◌, ◌++◌, map, append_assoc, append-nil}
+use mathlib.Core.List.{List, [], ◌∷◌, ◌++◌, append_assoc, append-nil}
 use mathlib.Core.Option.{Option, none, some}
 use lib.Dec.{eqb}
 use borrow.Author.Tests.{eq-eqb, ne_eqb}
@@ -34,7 +34,7 @@ use Rattle.model.specs.World.{World}
 use Rattle.model.specs.Calls.{transmits, reports}
 use Rattle.model.specs.Refusals.{refusal_of}
 use Rattle.model.specs.Effects.{changed, reported, transmit_answer, poll_answer}
-use Rattle.model.specs.Runs.{Turn, bare, run}
+use Rattle.model.specs.Runs.{Turn, run}
 use Rattle.model.specs.declared.Answer.{Answer}
 use Rattle.model.specs.declared.Answer.TheVariants as answer
 use Rattle.model.proofs.Classes.{scan_passes}
@@ -42,8 +42,7 @@ use Rattle.runs.specs.Run.{kind_in, said, hands_out, hands_out_it, times_out_it,
 use Rattle.runs.specs.Round.{transmission, poll, is_report, Transmits, none_left, one_more, Polls, told_to_wait, one_report, Round, round, Step, Runs, ends, then_call, then_round}
 use Rattle.runs.specs.Times.{next, send_times, end_time, list_of}
 use Rattle.runs.specs.Demand.{Steady, rounds, LeftAlone}
-use Rattle.runs.proofs.Bare.{sends_bare, timeouts_bare}
-use Rattle.runs.proofs.Steady.{Ok, ok_said, next_ok, transmits_world, polls_world, round_run, ok_transmits, ok_round}
+use Rattle.runs.proofs.Steady.{Ok, ok_said, next_ok, transmits_world, polls_world, round_world, ok_transmits, ok_round}
 use Rattle.runs.proofs.Spared.{others_spare, scan_said, ended_other, absent_run}
 use Rattle.runs.proofs.One.{Loud, stepped_facts, sends_from, end_from, loud_goes, sends_step, end_step, sends_stay, sends_over, end_over, end_stay, timed_over, waits_over, not_cancelled}
 
@@ -59,7 +58,7 @@ unfolding timeouts
 timeouts_append rows x w [] bs = refl
 timeouts_append rows x w (t ∷ rs) bs = rw (timeouts_append rows x (said rows w t).world rs bs, append_assoc)
 
-pub alone_rest : (rows x : ℕ) (w : World) (rs bs : List Turn) → LeftAlone rows x w (rs ++ bs) → LeftAlone rows x (run rows w rs) bs
+alone_rest : (rows x : ℕ) (w : World) (rs bs : List Turn) → LeftAlone rows x w (rs ++ bs) → LeftAlone rows x (run rows w rs) bs
 alone_rest rows x w [] bs h = h
 alone_rest rows x w (t ∷ rs) bs h = alone_rest rows x (said rows w t).world rs bs h.1
 
@@ -257,16 +256,12 @@ end_nil tr s (suc k) c l = refl
 
 module _ (rows x : ℕ) (tr : Transport) (set : RequestRto) where
   -- a round in front of the rest of a run, in which x was sent and reported as us and vs say
-  round_closed : {now clock : ℕ} {w u : World} {bs : List Turn} → Round rows now w bs u clock → (rs : List Turn) → map bare rs ≡ bs
-      → (ts : List Turn) (us vs ss os : List ℕ) → sends rows x w bs ≡ us → timeouts rows x w bs ≡ vs → Closed rows x u ts ss os
-      → Closed rows x w (rs ++ ts) (us ++ ss) (vs ++ os)
-  round_closed {w = w} a rs c ts us vs ss os e f z =
-      let sent : sends rows x w rs ≡ us = sym (sends_bare rows x w rs) ∙ ap (sends rows x w) c ∙ e in
-      let over : timeouts rows x w rs ≡ vs = sym (timeouts_bare rows x w rs) ∙ ap (timeouts rows x w) c ∙ f in
-      record {
-        sent = sends_append rows x w rs ts ∙ rw (round_run a rs c, sent, z.sent);
-        over = timeouts_append rows x w rs ts ∙ rw (round_run a rs c, over, z.over);
-      }
+  round_closed : {now clock : ℕ} {w u : World} {rs : List Turn} → Round rows now w rs u clock → (ts : List Turn) (us vs ss os : List ℕ)
+      → sends rows x w rs ≡ us → timeouts rows x w rs ≡ vs → Closed rows x u ts ss os → Closed rows x w (rs ++ ts) (us ++ ss) (vs ++ os)
+  round_closed {w = w} {rs = rs} a ts us vs ss os e f z = record {
+    sent = sends_append rows x w rs ts ∙ rw (round_world a, e, z.sent);
+    over = timeouts_append rows x w rs ts ∙ rw (round_world a, f, z.over);
+  }
 
   pub present_run : {w : World} {ss : List Step} {ts : List Turn} → Runs rows w ss ts → (m : ℕ) → Ok rows tr set m w → Steady m ss → LeftAlone rows x w ts
       → (last : ℕ) (r : StunRequestState) → request_of (lookup x w.requests) ≡ some r → Loud last r
@@ -278,7 +273,7 @@ module _ (rows x : ℕ) (tr : Transport) (set : RequestRto) where
       let s = others_spare rows x w o.formed t c n.0 in
       let y = present_run d z.floor z.ok z.steady n.1 last r (s.kept ∙ f) q in
       record { sent = rw s.unsent y.sent; over = rw s.untimed y.over }
-  present_run (then_round {w} {u} {now} {clock} rs {ts = ts} {ss = ss} (round {v} {ts = as'} {ps} a b) c d) m o h n last r f q =
+  present_run (then_round {w} {u} {now} {clock} {ts = ts} {ss = ss} (round {v} {ts = as'} {ps} a b) d) m o h n last r f q =
       go (polls_outcome rows x tr set now h.1 g.clock g.request g.loud b (ok_transmits a m h.0 o) g.found)
       (λ last' r' f' q'. present_run d now o' h.2 alone last' r' f' q')
     where
@@ -289,7 +284,7 @@ module _ (rows x : ℕ) (tr : Transport) (set : RequestRto) where
       o' = ok_round (round a b) m h.0 o
 
       alone : LeftAlone rows x u ts
-      alone = rw (round_run (round a b) rs c) at (alone_rest rows x w rs ts n)
+      alone = rw (round_world (round a b)) at (alone_rest rows x w (as' ++ ps) ts n)
 
       sent_in_lem : sends rows x w (as' ++ ps) ≡ sends rows x w as'
       sent_in_lem =
@@ -302,14 +297,14 @@ module _ (rows x : ℕ) (tr : Transport) (set : RequestRto) where
       go : Outcome rows x tr set now h.1 g.clock g.request g.loud v ps u clock
           → ((last' : ℕ) (r' : StunRequestState) → request_of (lookup x u.requests) ≡ some r' → Loud last' r'
           → Closed rows x u ts (sends_from tr r' last' (rounds ss)) (list_of (end_from tr r' last' (rounds ss))))
-          → Closed rows x w (rs ++ ts) (sends_from tr r last (now ∷ rounds ss)) (list_of (end_from tr r last (now ∷ rounds ss)))
-      go (stayed {clock = m'} t l e k) ih =
-          let over = waits_over tr now g.clock g.request g.loud m' t in
+          → Closed rows x w ((as' ++ ps) ++ ts) (sends_from tr r last (now ∷ rounds ss)) (list_of (end_from tr r last (now ∷ rounds ss)))
+      go (stayed {clock = c} t l e k) ih =
+          let over = waits_over tr now g.clock g.request g.loud c t in
           let y = ih g.clock g.request k g.loud in
           rw (g.sent (rounds ss), g.end (rounds ss), end_stay tr now g.clock g.request g.loud (rounds ss) g.quiet over)
-          (round_closed (round a b) rs c ts (sends rows x w as') [] _ _ sent_in_lem (timed_in ∙ e) y)
+          (round_closed (round a b) ts (sends rows x w as') [] _ _ sent_in_lem (timed_in ∙ e) y)
       go (timed t e k) ih =
           let over = timed_over tr now g.clock g.request g.loud t in
           let y = absent_run rows x u ts o'.formed alone k in
           rw (g.sent (rounds ss), g.end (rounds ss), sends_over tr now g.clock g.request g.loud (rounds ss) over, end_over tr now g.clock g.request g.loud (rounds ss) over)
-          (round_closed (round a b) rs c ts (sends rows x w as') (now ∷ []) [] [] sent_in_lem (timed_in ∙ e) (record { sent = y.unsent; over = y.untimed }))
+          (round_closed (round a b) ts (sends rows x w as') (now ∷ []) [] [] sent_in_lem (timed_in ∙ e) (record { sent = y.unsent; over = y.untimed }))

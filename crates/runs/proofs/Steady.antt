@@ -1,13 +1,13 @@
 -- Worlds of a run whose clocks are steady: well formed, as the agent was built, with a mark that the clocks to come don't pass.
 --     Ok, ok_said, next_ok      such a world, and the one after a call
 --     run_append                a run in two parts
---     ok_transmits, ok_round, transmits_world, polls_world, round_world, round_run      the world after a round or a part of it
+--     ok_transmits, ok_round, transmits_world, polls_world, round_world      the world after a round or a part of it
 --     Reaches, reaches          the world after the first steps of a run, and the clocks to come
 --     never_append, never_call, never_bad      from such a world no call is refused by 1 or 3
 use Prim.Native.Nat.{ℕ, zero, suc, ◌^◌, ◌≤◌}
-use mathlib.Core.Path.{◌≡◌, refl, sym, ap, ◌∙◌}
+use mathlib.Core.Path.{◌≡◌, refl, sym, ◌∙◌}
 use mathlib.Core.Bool.{false, ◌||◌}
-use mathlib.Core.List.{List, [], ◌∷◌, ◌++◌, map}
+use mathlib.Core.List.{List, [], ◌∷◌, ◌++◌}
 use mathlib.Core.Option.{Option, none, some}
 use lib.Dec.{ltb}
 use borrow.Author.Tests.{le-ltb}
@@ -20,15 +20,13 @@ use Rattle.model.specs.Calls.{Kind, clock_of, on_some}
 use Rattle.model.specs.Refusals.{CLOCK, number_of, refusal_of}
 use Rattle.model.specs.Effects.{mark_after}
 use Rattle.model.specs.Says.{says_of}
-use Rattle.model.specs.Runs.{Turn, bare, run}
+use Rattle.model.specs.Runs.{Turn, run}
 use Rattle.model.proofs.Refused.{refused_exactly, refused_same}
 use Rattle.model.proofs.Classes.{never_state, done}
 use Rattle.model.proofs.Kept.{says_formed, says_agent}
-use Rattle.model.proofs.Unread.{run_bare}
 use Rattle.runs.specs.Run.{kind_in, said}
 use Rattle.runs.specs.Round.{transmission, poll, Transmits, none_left, one_more, Polls, told_to_wait, one_report, Round, round, Step, Runs, ends, then_call, then_round}
 use Rattle.runs.specs.Demand.{SteadyAt, Steady, NeverBad}
-use Rattle.runs.proofs.Bare.{never_bare}
 
 pub record Ok (rows : ℕ) (tr : Transport) (set : RequestRto) (m : ℕ) (w : World) : Type 0 where
   pub formed : StateFormed rows w
@@ -90,10 +88,6 @@ pub round_world : {rows now clock : ℕ} {w u : World} {rs : List Turn} → Roun
 round_world {rows} {w = w} (round {v} {u} {ts} {ps} a b) =
     run_append rows w ts ps ∙ rw (transmits_world a) (polls_world b)
 
--- whatever bytes its calls are handed
-pub round_run : {rows now clock : ℕ} {w u : World} {bs : List Turn} → Round rows now w bs u clock → (rs : List Turn) → map bare rs ≡ bs → run rows w rs ≡ u
-round_run {rows} {w = w} a rs e = sym (run_bare rows w rs) ∙ ap (run rows w) e ∙ round_world a
-
 module _ {rows : ℕ} {tr : Transport} {set : RequestRto} {now : ℕ} where
   pub ok_transmits : {w v : World} {ts : List Turn} → Transmits rows now w ts v → (m : ℕ) → m ≤ now → Ok rows tr set m w → Ok rows tr set now v
   ok_transmits (none_left {w} e) m l o = ok_said rows tr set m now w (kind_in (transmission now)) [] o l (omega arith)
@@ -118,8 +112,8 @@ reaches ends rest m o h = record { floor = m; ok = o; steady = h }
 reaches {rows} {tr} {set} (then_call {w} {t} {ss} n d) rest m o h =
     let z = next_ok rows tr set m t w (λ u. Steady u (ss ++ rest)) o h in
     reaches d rest z.floor z.ok z.steady
-reaches {rows} {tr} {set} (then_round {w} {u} {now} rs {ts = ts} a e d) rest m o h =
-    rw (run_append rows w rs ts, round_run a rs e) (reaches d rest now (ok_round a m h.0 o) h.2)
+reaches {rows} {tr} {set} (then_round {w} {u} {now} {rs = rs} {ts = ts} a d) rest m o h =
+    rw (run_append rows w rs ts, round_world a) (reaches d rest now (ok_round a m h.0 o) h.2)
 
 -- no call is refused by 1 or 3
 
@@ -162,5 +156,5 @@ never_bad ends m o h = tt
 never_bad {rows} {tr} {set} (then_call {w} {t} {ss} {ts} n d) m o h =
     let z = next_ok rows tr set m t w (λ u. Steady u ss) o h in
     never_call rows tr set m w t o ts (forget (clock_of (kind_in t)) m (λ u. Steady u ss) h) (never_bad d z.floor z.ok z.steady)
-never_bad {rows} {tr} {set} (then_round {w} {u} {now} rs {ts = ts} a e d) m o h =
-    never_append rows w rs ts (never_bare rows w rs (rw e (never_round h.1 a m h.0 o))) (rw (round_run a rs e) (never_bad d now (ok_round a m h.0 o) h.2))
+never_bad {rows} {tr} {set} (then_round {w} {u} {now} {rs = rs} {ts = ts} a d) m o h =
+    never_append rows w rs ts (never_round h.1 a m h.0 o) (rw (round_world a) (never_bad d now (ok_round a m h.0 o) h.2))

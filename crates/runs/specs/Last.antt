@@ -40,7 +40,7 @@ NoZeroSet rows w (t ∷ ts) =
 
 -- No "request whose retransmissions were cancelled has a step still due".
 abbrev pub NoSilentDue : Transport → ℕ → List StunRequestState → Type 0
-NoSilentDue tr now l = (x i : ℕ) (r : StunRequestState) → lookup x l ≡ At i r → r.send_cancelled ≡ true → is_due tr now r ≡ false
+NoSilentDue tr now l = All (λ r. r.send_cancelled ≡ true → is_due tr now r ≡ false) l
 
 -- A round "sends and reports nothing", and leaves the requests.
 pub record Idle (rows now : ℕ) (w : World) (rs : List Turn) (u : World) : Type 0 where
@@ -60,6 +60,3 @@ pub record LastSentence (rows : ℕ) (s : Start) (before : List Turn) (now clock
   -- "a round before it, with no other call between, sends and reports nothing"
   pub nothing_before : (soon again : ℕ) (rs : List Turn) (v : World) → now ≤ soon → soon < clock → soon ≤ 2 ^ 60 → Round rows soon u rs v again
       → Idle rows soon u rs v
-  -- Its own wait is no earlier, so that any number of rounds before it, one after the other, send and report nothing.
-  pub no_earlier : (soon again : ℕ) (rs : List Turn) (v : World) → now ≤ soon → soon < clock → soon ≤ 2 ^ 60 → Round rows soon u rs v again
-      → clock ≤ again

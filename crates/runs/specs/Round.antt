@@ -1,9 +1,9 @@
 -- A round, as demand 3 says it: "a round, at one clock, takes transmissions until none is left, then polls until told to wait". A run in
 -- which transmissions and polls stand only in rounds, and "the first with more rounds between calls".
-use Rattle.std.specs.Prelude.{ℕ, ◌≡◌, Bool, true, false, List, [], ◌∷◌, ◌++◌, map}
+use Rattle.std.specs.Prelude.{ℕ, ◌≡◌, Bool, true, false, List, [], ◌∷◌, ◌++◌}
 use Rattle.model.specs.World.{World}
 use Rattle.model.specs.Calls.{Kind, carries, scans, names, meets, counts, on_some}
-use Rattle.model.specs.Runs.{Turn, plain, bare}
+use Rattle.model.specs.Runs.{Turn, plain}
 use Rattle.model.specs.declared.Call.TheVariants as call
 use Rattle.model.specs.declared.Answer.{Answer}
 use Rattle.model.specs.declared.Answer.TheVariants as answer
@@ -50,14 +50,13 @@ is_scan (names id wish) = false
 is_scan (meets addr m) = false
 is_scan (counts f) = false
 
--- The run of such steps from a world: "transmissions and polls only in rounds". A host may hand its receive buffer to them, which they
--- don't look at: the calls of a round are those of `Round` but for such bytes.
+-- The run of such steps from a world: "transmissions and polls only in rounds".
 pub data Runs (rows : ℕ) : World → List Step → List Turn → Type 0 where
   ends : {w : World} → Runs rows w [] []
   then_call : {w : World} {t : Turn} {ss : List Step} {ts : List Turn} → is_scan (kind_in t) ≡ false → Runs rows (said rows w t).world ss ts
       → Runs rows w (calls t ∷ ss) (t ∷ ts)
-  then_round : {w u : World} {now clock : ℕ} (rs : List Turn) {bs ts : List Turn} {ss : List Step} → Round rows now w bs u clock → map bare rs ≡ bs
-      → Runs rows u ss ts → Runs rows w (plays now ∷ ss) (rs ++ ts)
+  then_round : {w u : World} {now clock : ℕ} {rs ts : List Turn} {ss : List Step} → Round rows now w rs u clock → Runs rows u ss ts
+      → Runs rows w (plays now ∷ ss) (rs ++ ts)
 
 -- "The second run being the first with more rounds between calls."
 pub data MoreRounds : List Step → List Step → Type 0 where

@@ -1,4 +1,6 @@
 // The statistics: what each event counts, the stops, and what is asked of them.
+#![tactic(auto)]
+
 use crate::say;
 use stats::{Event, Outstanding, Rtt, StunAgentStats};
 

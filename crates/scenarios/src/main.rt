@@ -1,5 +1,7 @@
 // Scenarios on one request, the statistics and the store, each a few calls; `stdout` has the answers, worked out from document 01.
 // Clocks are small: the definitions know no unit. Unless said otherwise a request has an initial wait of 500 and a final one of 8,000.
+#![tactic(auto)]
+
 mod counting;
 mod requests;
 mod rows;

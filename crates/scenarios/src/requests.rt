@@ -1,4 +1,6 @@
 // One request: sends, ends, cancels, settings, round trips and limits.
+#![tactic(auto)]
+
 use crate::say;
 use address::{Address, Host};
 use message::{Integrity, TransactionId};

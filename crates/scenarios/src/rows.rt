@@ -1,4 +1,6 @@
 // The lent store: copies into rows, and the parts handed back.
+#![tactic(auto)]
+
 use crate::say;
 
 fn show(store: &[u8], row: usize, len: usize) {

@@ -1,4 +1,6 @@
 // The words of an answer on standard output.
+#![tactic(auto)]
+
 use stats::Rtt;
 
 pub fn word(text: &[u8]) {

@@ -1,3 +1,2 @@
--- The specimens and the values at the limits hold.
+-- The specimens hold.
 mod Hold
-mod Edges

@@ -9,15 +9,13 @@ use Rattle.message.specs.declared.Integrity.{Integrity}
 use Rattle.message.specs.declared.Integrity.TheVariants.{None, Sha1, Sha256}
 use Rattle.message.specs.declared.Parsed.{Parsed}
 use Rattle.message.specs.declared.Parsed.TheVariants.{Good, Bad}
-use Rattle.waits.specs.Waits.{milliseconds, default_rto, waits_of, wait_of, final_wait}
+use Rattle.waits.specs.Waits.{milliseconds, default_rto, within_limits, waits_of, wait_of, final_wait}
 use Rattle.waits.specs.declared.RequestRto.{RequestRto}
 use Rattle.waits.specs.declared.Transport.TheVariants.{Udp, Tcp}
 use Rattle.request.specs.Request.{submitted, transmit_of, poll_of}
 use Rattle.request.specs.Answers.{goes_out, record_after}
 use Rattle.request.specs.declared.StunRequestState.{StunRequestState}
 use Rattle.request.specs.declared.StunRequestPollRet.TheVariants.{WaitUntil, TimedOut}
-use Rattle.model.specs.Fresh.{build_of}
-use Rattle.model.specs.declared.Built.TheVariants.{Refused}
 
 -- What a definition gives, and what document 01 says: two values of one type, whatever the type.
 pub data Specimen : Type 1 where
@@ -74,8 +72,8 @@ specimens =
     ∷ gives (wait_of (settings 1 (2 ^ 61) 33 0) 31) 2147483648
     -- S5: the default by TCP
     ∷ gives (final_wait Tcp default_rto) (milliseconds 39500)
-    -- S6: R = 34 is refused, by 2
-    ∷ gives (build_of (record { transport = Udp; rto = settings (milliseconds 500) (2 ^ 61) 34 (milliseconds 8000); stats = false })) (Refused 2)
+    -- S6: R = 34 is refused
+    ∷ gives (within_limits (settings (milliseconds 500) (2 ^ 61) 34 (milliseconds 8000))) false
     -- S7: the four classes
     ∷ gives (message_of (bytes_of 0x0001 0 [])) (binding Request None)
     ∷ gives (message_of (bytes_of 0x0011 0 [])) (binding Indication None)
@@ -95,11 +93,11 @@ specimens =
     ∷ gives (poll_of Udp (milliseconds 700) (record_after (at_zero 3) (transmit_of Udp (milliseconds 700) (at_zero 3)))) (WaitUntil (milliseconds 1700))
     ∷ []
 
--- Beside the document's own, some of section 14: padding may hold anything and must be there; SHA-256 counts on either side of SHA-1.
+-- Beside the document's own, some of section 14: padding may hold anything and must be there; the last integrity type counts.
 unfoldable pub attributes : List Specimen
 attributes =
     gives (message_of (bytes_of 0x0001 16 (attribute 0x0008 ++ attribute 0x001C))) (binding Request Sha256)
-    ∷ gives (message_of (bytes_of 0x0001 16 (attribute 0x001C ++ attribute 0x0008))) (binding Request Sha256)
+    ∷ gives (message_of (bytes_of 0x0001 16 (attribute 0x001C ++ attribute 0x0008))) (binding Request Sha1)
     ∷ gives (message_of (bytes_of 0x0001 16 (0x80 ∷ 0x22 ∷ 0 ∷ 1 ∷ 7 ∷ 7 ∷ 7 ∷ 7 ∷ attribute 0x0008))) (binding Request Sha1)
     ∷ gives (message_of (bytes_of 0x0001 8 (0x80 ∷ 0x22 ∷ 0 ∷ 5 ∷ 7 ∷ 7 ∷ 7 ∷ 7 ∷ []))) Bad
     ∷ []

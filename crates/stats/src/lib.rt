@@ -4,18 +4,20 @@
 //
 // The statistics of an agent, counted by value: stats.rs. Its accessors are the fields. Times are whole nanoseconds, and an
 // `Option<Duration>` is an `Rtt`. Every number stays at 2^64 - 1 where the Rust's would pass it.
+#![tactic(auto)]
+
 ghost use Rattle.std.specs.Prelude.{◌≡◌, min, max};
 ghost use Rattle.stats.specs.Count.{plus, lesser, greater, times_of, timed, timed_by, with_times, counted, zeroed};
 ghost use Rattle.stats.specs.Query.{average_of, outstanding_of};
 
 // A time that may be absent.
-#[derive(Drop)]
+#[derive(Clone, Copy)]
 pub enum Rtt {
     Absent,
     Nanos(u64),
 }
 
-#[derive(Drop)]
+#[derive(Clone, Copy)]
 pub struct StunAgentStats {
     pub requests_sent: u64,
     pub requests_received: u64,
@@ -34,7 +36,7 @@ pub struct StunAgentStats {
 }
 
 // What one call of the agent counts. A number is the message's length in bytes.
-#[derive(Drop)]
+#[derive(Clone, Copy)]
 pub enum Event {
     Nothing,
     RequestSent(u64),
@@ -51,7 +53,7 @@ pub enum Event {
 }
 
 // The Rust's difference would panic where it is below zero: refusal 12, COUNTS.
-#[derive(Drop)]
+#[derive(Clone, Copy)]
 pub enum Outstanding {
     Count(u64),
     BelowZero,

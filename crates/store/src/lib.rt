@@ -1,5 +1,7 @@
 // The message store that the host lends: 32 rows of 1,024 bytes, a request's bytes at the start of its row. It stands for the Rust's
 // `bytes: Vec<u8>` of each request.
+#![tactic(auto)]
+
 ghost use Rattle.std.specs.Prelude.{◌≡◌, length};
 ghost use Rattle.store.specs.Rows.{copied, part_of};
 

@@ -1,5 +1,7 @@
 // The outstanding requests in words that the host lends, the first n rows in use: the Rust's `BTreeMap`. What changes words promises
 // every word afterwards, by rows, and the list of requests that they then hold.
+#![tactic(auto)]
+
 ghost use Rattle.std.specs.Prelude.{◌≡◌, ◌+◌, ◌-◌, ◌^◌, ◌≤◌, ◌<◌, min, length, set};
 ghost use Rattle.message.specs.Head.{key};
 ghost use Rattle.rows.specs.Lists.{insert_at, remove_at};

@@ -1,5 +1,7 @@
 // Reads the sample messages of RFC 5769, sections 2.1 to 2.4, and damaged copies of them, and prints what it finds of each, a line each:
 // class, method, identifier and integrity, or `bad`. The file stdout beside this says what RFC 5769 and RFC 8489 want there.
+#![tactic(auto)]
+
 ghost use Rattle.std.specs.Prelude.{◌≤◌, length};
 
 use libc::STDOUT_FILENO;

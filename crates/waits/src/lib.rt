@@ -5,17 +5,19 @@
 // The waits of a request: `RequestRto` of agent.rs. The Rust's `calculate_timeouts` answers a list of durations and a last one; here
 // `timeouts_len` is the list's length, `timeout` an element of it, and `last_retransmit_timeout` the last one.
 // Durations are whole nanoseconds, 0 to 2^61.
+#![tactic(auto)]
+
 ghost use Rattle.std.specs.Prelude.{◌≡◌, ◌+◌, ◌^◌, ◌≤◌, ◌<◌, min};
 ghost use Rattle.waits.specs.Waits.{default_rto, Limits, within_limits, capped, sum_of, steps_of, waits_of, wait_of, final_wait};
 
 // `TransportType` of stun-types.
-#[derive(Drop)]
+#[derive(Clone, Copy)]
 pub enum Transport {
     Udp,
     Tcp,
 }
 
-#[derive(Drop)]
+#[derive(Clone, Copy)]
 pub struct RequestRto {
     pub initial: u64,
     pub max: u64,

@@ -1,4 +1,6 @@
 // Numbers in network byte order, the first byte heaviest, as STUN messages (RFC 8489, section 5) and traces hold them.
+#![tactic(auto)]
+
 ghost use Rattle.std.specs.Prelude.{◌≡◌, ◌+◌, ◌≤◌, ◌<◌, length};
 ghost use Rattle.wire.specs.Wire.{be16, be32, be64};
 

@@ -187,19 +187,16 @@ impl Agent {
         Answer::Ok
     }
 
-    /// Behind SHA-1 only SHA-256 still counts and behind SHA-256 neither (RFC 8489, 14.5 and 14.6): so SHA-256 if one
-    /// is on the walk, else SHA-1 if one is.
+    /// The last of the two integrity types on the walk over all attributes.
     fn query(&self, id: &Id) -> Answer {
         let at = self.find(id).expect("refused when not outstanding");
         let attributes = read(&self.requests[at].message).attributes;
-        let has = |kind| attributes.iter().any(|attribute| attribute.kind == kind);
-        if has(INTEGRITY_SHA256) {
-            Answer::Sha256
-        } else if has(INTEGRITY) {
-            Answer::Sha1
-        } else {
-            Answer::Nothing
-        }
+        let integrity = attributes.iter().rev().find_map(|attribute| match attribute.kind {
+            INTEGRITY => Some(Answer::Sha1),
+            INTEGRITY_SHA256 => Some(Answer::Sha256),
+            _ => None,
+        });
+        integrity.unwrap_or(Answer::Nothing)
     }
 
     fn validate(&mut self, address: Address) {

@@ -1,29 +1,25 @@
--- `purlanchor::slide` meets its contract: up to place i the bytes are moved, from there on they are as they were.
-use Prim.Native.Nat.{ℕ, ◌≤◌, ◌-◌}
-use mathlib.Core.Path.{◌≡◌, refl, sym, ap, ◌∙◌}
-use native.Mathlib.Omega.{arith}
-use lib.ListN.{length, take, drop}
+-- `purlanchor::slide` stays within the buffer.
+use lib.ListN.{length}
+use mathlib.Core.Path.{◌≡◌}
+use Prim.Native.Nat.{◌≤◌, ◌-◌}
 use borrow.Author.Rules.{rules}
-use Rattle.purlanchor.proofs.Taking.{slide_none, slide_front, slide_back}
 use Rattle.purlanchor.proofs.slide.Statement.{statement}
 use Rattle.purlanchor.proofs.slide.Tie as tie
 
 abbrev invariant-loop : tie.invariant-loop
-invariant-loop buf₀ from end n i₀ buf i =
-    (length buf ≡ length buf₀) × (i ≤ n) × (take i buf ≡ take i (drop from buf₀)) × (drop i buf ≡ drop i buf₀)
+invariant-loop buf₀ from end n i₀ buf i = (length buf ≡ length buf₀) × (i ≤ n)
 
 abbrev decreases-loop : tie.decreases-loop
-decreases-loop buf₀ from end n i₀ buf i =
-    n - i
+decreases-loop buf₀ from end n i₀ buf i = n - i
 
 sub-n : tie.Need-overflow-sub-n invariant-loop decreases-loop
 sub-n c = search rules
 
 returns : tie.Need-returns invariant-loop decreases-loop
-returns c = let a = c.before.args in (refl, slide_none a.buf.now a.from (a.end - a.from) c.if1.true)
+returns c = search rules
 
 loop-holds : tie.Need-loop-init invariant-loop decreases-loop
-loop-holds c = (refl, omega arith, refl, refl)
+loop-holds c = search rules
 
 add-buf : tie.Need-overflow-add-buf invariant-loop decreases-loop
 add-buf c = search rules
@@ -41,24 +37,13 @@ loop-less : tie.Need-loop-smaller invariant-loop decreases-loop
 loop-less c = search rules
 
 loop-again : tie.Need-loop-preserved invariant-loop decreases-loop
-loop-again c =
-    let a = c.before.before.before.before.args in
-    let l = c.before.before.loop in
-    let h = l.invariant in (
-      search rules,
-      search rules,
-      slide_front l.buf a.buf.now a.from l.i (omega arith) h.0 h.2 h.3,
-      slide_back l.buf a.buf.now a.from l.i (omega arith) h.0 h.2 h.3,
-    )
+loop-again c = search rules
 
 same_length : tie.Need-same-length invariant-loop decreases-loop
 same_length c = search rules
 
 returns-2 : tie.Need-returns-2 invariant-loop decreases-loop
-returns-2 c =
-    let l = c.before.loop in
-    let e : l.i ≡ c.before.before.before.args.end - c.before.before.before.args.from = omega arith in
-    (refl, ap (λ (i : ℕ). take i l.buf) (sym e) ∙ l.invariant.2 ∙ ap (λ (i : ℕ). take i (drop c.before.before.before.args.from c.before.before.before.args.buf.now)) e)
+returns-2 c = search rules
 
 pub slide-spec : {M : Type 1} → statement M
 slide-spec =

@@ -1,5 +1,5 @@
 -- `same_address` is true exactly when the two addresses are the same value.
-use Rattle.core.specs.Prelude.{◌≡◌, ℕ, true, eqb, ◌↔◌}
+use Rattle.std.specs.Prelude.{◌≡◌, ℕ, true, eqb, ◌↔◌}
 use mathlib.Core.Path.{refl, ap, ap₂}
 use mathlib.Core.Bool.{and-eq-true_iff}
 use native.Mathlib.Omega.{arith}

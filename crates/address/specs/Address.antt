@@ -1,5 +1,5 @@
 -- When two addresses are equal (document 01, "Numbers"): the kind and every number are.
-use Rattle.core.specs.Prelude.{ℕ, Bool, false, ◌&&◌, ◌==◌}
+use Rattle.std.specs.Prelude.{ℕ, Bool, false, ◌&&◌, ◌==◌}
 use Rattle.address.specs.declared.Address.{Address}
 use Rattle.address.specs.declared.Host.{Host}
 use Rattle.address.specs.declared.Host.TheVariants.{V4, V6}

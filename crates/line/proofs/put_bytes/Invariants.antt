@@ -1,0 +1,17 @@
+-- `line::put_bytes` meets its contract. The loop's invariant: the bytes passed are put.
+use Rattle.line.proofs.Putting.{put_none, put_then, put_same, put_length}
+use Rattle.line.specs.Lines.{Puts}
+use native.Mathlib.Numerals.{add-one}
+use lib.Seq.{take_all, take-suc}
+use lib.ListN.{length, take}
+use mathlib.Core.Path.{◌≡◌, sym, ◌∙◌}
+use Prim.Native.Nat.{◌≤◌, ◌<◌, ◌-◌}
+use borrow.Author.Rules.{rules}
+use native.Mathlib.Omega.{arith}
+use Rattle.line.proofs.put_bytes.Given as goal
+
+abbrev pub invariant-loop-i : goal.invariant-loop-i
+invariant-loop-i l = (l.i ≤ length l.bytes) × Puts l.initial.out l.at (take l.i l.bytes) l.out l.to × (length l.out ≡ length l.initial.out)
+
+abbrev pub decreases-loop-i : goal.decreases-loop-i
+decreases-loop-i l = length l.bytes - l.i

@@ -1,0 +1,6 @@
+-- `records::id_from` meets its contract: each word of the identifier is read at its place. Assumes nothing.
+use borrow.Author.Rules.{rules}
+use Rattle.records.proofs.id_from.Goals as goal
+
+pub returns : goal.returns
+returns c = cc

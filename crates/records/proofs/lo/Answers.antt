@@ -1,0 +1,11 @@
+-- `records::lo` meets its contract, by the kind of host. Assumes nothing.
+use native.Mathlib.Omega.{arith}
+use Rattle.records.proofs.Coding.{lo_v4, lo_v6}
+use borrow.Author.Rules.{rules}
+use Rattle.records.proofs.lo.Goals as goal
+
+pub returns-in-V4 : goal.returns-in-V4
+returns-in-V4 c = lo_v4 _ _ c.in-V4.is (omega arith)
+
+pub returns-in-V6 : goal.returns-in-V6
+returns-in-V6 c = lo_v6 _ _ _ _ _ c.in-V6.is

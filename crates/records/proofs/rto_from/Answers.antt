@@ -1,0 +1,6 @@
+-- `records::rto_from` meets its contract: each word of the settings is read at its place. Assumes nothing.
+use borrow.Author.Rules.{rules}
+use Rattle.records.proofs.rto_from.Goals as goal
+
+pub returns : goal.returns
+returns c = cc

@@ -2,6 +2,7 @@
 use Rattle.record.specs.Records.{body_of}
 use Rattle.record.proofs.Bodies.{by_kind, no_kind}
 use borrow.Author.Rules.{rules}
+use native.Mathlib.Omega.{arith}
 use Rattle.record.proofs.body_of.Goals as goal
 
 pub returns-in-1 : goal.returns-in-1
@@ -65,4 +66,4 @@ unfolding body_of
 returns-in-15 c = by_kind _ _ c.in-15.is c.named_of-in-15.ensures
 
 pub returns-in_default : goal.returns-in_default
-returns-in_default c = ?
+returns-in_default c = no_kind _ _ (omega arith) (omega arith) (omega arith) (omega arith) (omega arith) (omega arith) (omega arith) (omega arith) (omega arith) (omega arith) (omega arith) (omega arith) (omega arith) (omega arith) (omega arith)

@@ -1,0 +1,7 @@
+-- `is_crowded` meets its contract. Assumes nothing.
+use Rattle.agent.proofs.Received.{crowded_new}
+use borrow.Author.Rules.{rules}
+use Rattle.agent.proofs.is_crowded.Goals as goal
+
+pub returns : goal.returns
+returns c = crowded_new _ _ c.if-known.false

@@ -1,0 +1,7 @@
+-- `place_of` meets its contract. Assumes nothing.
+use Rattle.agent.proofs.Received.{new_place}
+use borrow.Author.Rules.{rules}
+use Rattle.agent.proofs.place_of.Goals as goal
+
+pub returns : goal.returns
+returns c = new_place _ _ c.if-known.false

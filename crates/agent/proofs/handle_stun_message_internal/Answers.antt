@@ -37,7 +37,7 @@ pub peers_after-requires-else-is_response : goal.peers_after-requires-else-is_re
 peers_after-requires-else-is_response c = sym c.is_crowded-crowded.ensures ∙ c.if-crowded-2.false
 
 pub returns-else-crowded : goal.returns-else-crowded
-returns-else-crowded c = λ store peers st e k. found_yes c.args.agent _ c.args.from c.args.known c.args.places c.args.clock _ store peers st _ e k _ (sym c.is_past.ensures ∙ c.if-is_past.false) (sym c.from_bytes.ensures ∙ c.in-Good.is) _ _ _ _ _ _ (sym c.is_crowded-crowded.ensures ∙ c.if-crowded.false) c.wide-len.ensures c.mark.ensures c.peers_after.ensures c.event_of-event.ensures c.place_of-place.ensures _ _ _ _ (sym c.is_response.ensures ∙ c.if-is_response.true) (sym c.find.ensures ∙ c.in-At.is) c.round_trip-rtt.ensures c.remove.ensures c.Received-as.ensures c.done.ensures
+returns-else-crowded c = λ store peers st e k. found_yes c.args.agent _ c.args.from c.args.known c.args.places c.args.clock _ store peers st _ e k _ (sym c.is_past.ensures ∙ c.if-is_past.false) (sym c.from_bytes.ensures ∙ c.in-Good.is) _ _ _ _ _ _ (sym c.is_crowded-crowded.ensures ∙ c.if-crowded.false) c.wide-len.ensures c.mark.ensures c.peers_after.ensures c.event_of-event.ensures c.place_of-place.ensures _ _ _ _ (sym c.is_response.ensures ∙ c.if-is_response.true) (sym c.find.ensures ∙ c.in-At.is) c.round_trip-rtt.ensures c.remove.ensures c.received_as.ensures c.done.ensures
 
 pub returns-in-Nothing : goal.returns-in-Nothing
 returns-in-Nothing c = λ store peers st e k. receives_none c.args.agent _ c.args.from c.args.known c.args.places c.args.clock _ store peers st _ e k _ (sym c.is_past.ensures ∙ c.if-is_past.false) (sym c.from_bytes.ensures ∙ c.in-Good.is) (sym c.is_response.ensures ∙ c.if-is_response.true) (sym c.find.ensures ∙ c.in-Nothing.is) _ c.mark.ensures c.done-in-Nothing.ensures

@@ -1,4 +1,5 @@
 -- `is_ready` meets its contract: a law of the test for each return. Assumes nothing.
+use mathlib.Core.Path.{sym, ◌∙◌}
 use native.Mathlib.Omega.{arith}
 use Rattle.agent.proofs.Ready.{short_table, short_store, crowded, late, unlimited, decided, fails, passes}
 use borrow.Author.Rules.{rules}
@@ -17,7 +18,7 @@ pub returns-then-agent-gt1152921504606846976 : goal.returns-then-agent-gt1152921
 returns-then-agent-gt1152921504606846976 c = late _ _ _ _ (omega arith) (omega arith) (omega arith) (omega arith)
 
 pub returns-then-not-within_limits : goal.returns-then-not-within_limits
-returns-then-not-within_limits c = unlimited _ _ _ _ (omega arith) (omega arith) (omega arith) (omega arith) (fails c.within_limits.ensures c.if-not-within_limits.true)
+returns-then-not-within_limits c = unlimited _ _ _ _ (omega arith) (omega arith) (omega arith) (omega arith) (sym c.within_limits.ensures ∙ c.if-not-within_limits.true)
 
 pub returns : goal.returns
-returns c = decided _ _ _ _ (omega arith) (omega arith) (omega arith) (omega arith) (passes c.within_limits.ensures c.if-not-within_limits.false) _ c.is_formed.ensures
+returns c = decided _ _ _ _ (omega arith) (omega arith) (omega arith) (omega arith) (sym c.within_limits.ensures ∙ c.if-not-within_limits.false) _ c.is_formed.ensures

@@ -1,16 +1,17 @@
 -- `transmission` meets its contract. Assumes nothing.
+use mathlib.Core.Path.{sym, ◌∙◌}
 use Rattle.agent.proofs.Ready.{fails, passes, ready_says, few, hands_unready, hands_unused, hands_part}
 use borrow.Author.Rules.{rules}
 use Rattle.agent.proofs.transmission.Goals as goal
 
 pub returns-then-not-is_ready : goal.returns-then-not-is_ready
-returns-then-not-is_ready c = hands_unready _ _ _ _ _ _ (fails c.is_ready.ensures c.if-not-is_ready.true)
+returns-then-not-is_ready c = hands_unready _ _ _ _ _ _ (sym c.is_ready.ensures ∙ c.if-not-is_ready.true)
 
 pub in_use-requires : goal.in_use-requires
-in_use-requires c = let s = ready_says _ _ _ _ (passes c.is_ready.ensures c.if-not-is_ready.false) in (few _ _ s, s.fits)
+in_use-requires c = let s = ready_says _ _ _ _ (sym c.is_ready.ensures ∙ c.if-not-is_ready.false) in (few _ _ s, s.fits)
 
 pub returns-then-not-in_use : goal.returns-then-not-in_use
-returns-then-not-in_use c = hands_unused _ _ _ _ _ _ (fails c.in_use.ensures c.if-not-in_use.true)
+returns-then-not-in_use c = hands_unused _ _ _ _ _ _ (sym c.in_use.ensures ∙ c.if-not-in_use.true)
 
 pub returns : goal.returns
-returns c = hands_part _ _ _ _ _ _ (passes c.is_ready.ensures c.if-not-is_ready.false) (passes c.in_use.ensures c.if-not-in_use.false) _ c.part.ensures
+returns c = hands_part _ _ _ _ _ _ (sym c.is_ready.ensures ∙ c.if-not-is_ready.false) (sym c.in_use.ensures ∙ c.if-not-in_use.false) _ c.part.ensures

@@ -1,5 +1,3 @@
 -- `Values` and `Local` serve the walks, `Join` that of `call`; `Theorems` says what follows of the promises.
-mod Values
-mod Local
 mod Join
 pub mod Theorems

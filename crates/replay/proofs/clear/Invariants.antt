@@ -1,0 +1,16 @@
+-- `replay::clear` meets its contract. The loop's invariant: zeros stand from the place to i, and what stood before it.
+use lib.ListN.{length, take, replicate, length-set}
+use Prim.Native.Nat.{◌≤◌, ◌-◌}
+use mathlib.Core.List.{◌++◌}
+use mathlib.Core.Path.{◌≡◌, refl, ◌∙◌}
+use Rattle.replay.proofs.Fits.{clear_none, clear_more, clear_all}
+use borrow.Author.Rules.{rules}
+use native.Mathlib.Omega.{arith}
+use Rattle.replay.proofs.clear.Given as goal
+
+abbrev pub invariant-loop-i : goal.invariant-loop-i
+invariant-loop-i l =
+    (l.from ≤ l.i) × (l.i ≤ length l.out) × (length l.out ≡ length l.initial.out) × (take l.i l.out ≡ take l.from l.initial.out ++ replicate (l.i - l.from) 0)
+
+abbrev pub decreases-loop-i : goal.decreases-loop-i
+decreases-loop-i l = length l.initial.out - l.i

@@ -1,0 +1,37 @@
+-- `replay::lines` meets its contract. The loop's invariant: the lines put so far, with those of what is left, are all that fit.
+use Prim.Native.Nat.{◌+◌, ◌-◌, ◌≤◌, ◌<◌}
+use mathlib.Core.Path.{◌≡◌, refl, ◌∙◌}
+use native.Mathlib.Omega.{arith}
+use lib.ListN.{length}
+use borrow.Author.Rules.{rules}
+use borrow.Author.Tests.{not-true, not-false}
+use Rattle.line.proofs.Putting.{put_length}
+use Rattle.records.specs.Coding.{size}
+use Rattle.replay.specs.Lent.{stand_of}
+use Rattle.replay.proofs.Turns.{begun, as_model}
+use Rattle.replay.proofs.Fits.{Stands, starts, ended, stopped, finished, goes_on, nearer}
+use Rattle.replay.proofs.lines.Goals as goal
+
+pub loop-at-init : goal.loop-at-init
+loop-at-init c = (starts _ _ (begun c.start-standing.ensures c.requires), refl, refl)
+
+pub returns-then-out-end : goal.returns-then-out-end
+returns-then-out-end c = stopped c.loop-at.invariant.0 c.loop-at-test.true (as_model c.next_turn-t.ensures (omega (arith, c.loop-at.invariant.1, c.requires.rows))) c.put_line-end.ensures c.if-out-end.true
+
+pub returns-then-not-t : goal.returns-then-not-t
+returns-then-not-t c = finished c.loop-at.invariant.0 c.loop-at-test.true (as_model c.next_turn-t.ensures (omega (arith, c.loop-at.invariant.1, c.requires.rows))) c.put_line-end.ensures c.if-out-end.false (not-true _ c.if-not-t.true)
+
+pub overflow_add-at : goal.overflow_add-at
+overflow_add-at c = omega (arith, nearer c.loop-at.invariant.0 c.loop-at-test.true (as_model c.next_turn-t.ensures (omega (arith, c.loop-at.invariant.1, c.requires.rows))) c.put_line-end.ensures c.if-out-end.false (not-false _ c.if-not-t.false), c.well_formed)
+
+pub overflow_add-number : goal.overflow_add-number
+overflow_add-number c = omega (arith, nearer c.loop-at.invariant.0 c.loop-at-test.true (as_model c.next_turn-t.ensures (omega (arith, c.loop-at.invariant.1, c.requires.rows))) c.put_line-end.ensures c.if-out-end.false (not-false _ c.if-not-t.false), c.loop-at.invariant.0.counts)
+
+pub loop-at-smaller : goal.loop-at-smaller
+loop-at-smaller c = omega (arith, nearer c.loop-at.invariant.0 c.loop-at-test.true (as_model c.next_turn-t.ensures (omega (arith, c.loop-at.invariant.1, c.requires.rows))) c.put_line-end.ensures c.if-out-end.false (not-false _ c.if-not-t.false))
+
+pub loop-at-preserved : goal.loop-at-preserved
+loop-at-preserved c = (goes_on c.loop-at.invariant.0 c.loop-at-test.true (as_model c.next_turn-t.ensures (omega (arith, c.loop-at.invariant.1, c.requires.rows))) c.put_line-end.ensures c.if-out-end.false (not-false _ c.if-not-t.false), c.next_turn-t.auto.table ∙ c.loop-at.invariant.1, c.next_turn-t.auto.store ∙ c.loop-at.invariant.2)
+
+pub returns : goal.returns
+returns c = ended c.loop-at.invariant.0 c.loop-at-test.false

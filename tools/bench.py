@@ -29,16 +29,17 @@ def host_program(name, *arguments):
 
 
 def port_library():
-    """Proves and builds the port's static library, unless it is younger than every file and folder of the crates."""
+    """Proves and builds the port's static library, unless it is younger than every file of the crates."""
     library = ROOT / "target" / "staticlib" / "libreplay.a"
-    sources = [ROOT / "crates.txt", *(ROOT / "crates").rglob("*")]
+    made = {"out"}  # what the prover keeps beside a crate's files
+    sources = [ROOT / "crates.txt", *(it for it in (ROOT / "crates").rglob("*") if it.is_file() and not made & set(it.parts))]
     if library.is_file() and all(source.stat().st_mtime < library.stat().st_mtime for source in sources):
         return
     if not shutil.which("rt"):
         sys.exit("the Rattle kit's rt isn't here: the port can't be built")
-    done = subprocess.run(["rt", "staticlib", "replay"], cwd=ROOT, stdout=subprocess.PIPE, stderr=subprocess.STDOUT, text=True)
+    done = subprocess.run(["tools/build", "library"], cwd=ROOT, stdout=subprocess.PIPE, stderr=subprocess.STDOUT, text=True)
     if done.returncode:
-        sys.exit(f"{done.stdout[-2000:]}\nrt staticlib replay failed")
+        sys.exit(f"{done.stdout[-2000:]}\ntools/build library failed")
 
 
 def run_program(words, trace, seconds=60):

@@ -1,4 +1,4 @@
-//! Names the port's static library, which `rt staticlib replay` writes at the root of the repository.
+//! Names the port's static library, which `tools/build library` makes at the root of the repository.
 
 use std::path::Path;
 
@@ -7,7 +7,7 @@ fn main() {
     let library = folder.join("libreplay.a");
     println!("cargo:rerun-if-changed={}", library.display());
     if !library.is_file() {
-        eprintln!("{} isn't there: `rt staticlib replay` at the root of the repository makes it", library.display());
+        eprintln!("{} isn't there: `tools/build library` makes it", library.display());
         std::process::exit(1);
     }
     println!("cargo:rustc-link-search=native={}", folder.display());

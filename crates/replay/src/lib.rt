@@ -162,10 +162,9 @@ fn clear(out: &mut [u8], from: usize)
     }
 }
 
-// What a Rust host calls: the trace in, the lines that fit whole into the lent buffer, zeros behind them, the count of the lines' bytes
-// back.
-#[unsafe(no_mangle)]
-pub extern "C" fn replay(trace: &[u8], out: &mut [u8]) -> usize
+// A whole replay: the trace in, the lines that fit whole into the lent buffer, zeros behind them, the count of the lines' bytes back. A
+// Rust host calls it by its export in `replay_c`.
+pub fn replay(trace: &[u8], out: &mut [u8]) -> usize
     ensures { Replays trace.now (length out.old) out.new result }
 {
     let mut table = [0u64; 576];

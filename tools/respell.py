@@ -29,7 +29,8 @@ def respelled(name):
 
 
 def is_odd(name):
-    return bool(re.match(r"[a-z]", name) and (re.search(r"[a-z0-9][A-Z]", name) or "-" in name.rstrip("-")))
+    dashed = "-" in name.rstrip("-")
+    return bool(re.match(r"[a-z]", name) and (re.search(r"[a-z0-9][A-Z]", name) or dashed) or re.match(r"[A-Z]", name) and dashed)
 
 
 def texts(root, *endings):

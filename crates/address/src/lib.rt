@@ -16,7 +16,7 @@ pub enum Host {
     },
 }
 
-// A struct around the enum, since a slice of enums has no laws to walk by.
+// A host and a port: the element of the list of peers that a host lends.
 #[derive(Clone, Copy)]
 pub struct Address {
     pub host: Host,

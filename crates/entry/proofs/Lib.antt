@@ -1,3 +1,3 @@
--- `Values` and `Local` serve the walks, `Join` that of `call`; `Theorems` says what follows of the promises.
+-- `Join` is the law by which `call` meets its contract; `Theorems` says what follows of the promises.
 mod Join
 pub mod Theorems

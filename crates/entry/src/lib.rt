@@ -4,8 +4,8 @@
 //
 // The public entry of the port: a call of the agent on all that the host lends, the same for callers that hold the peers and the
 // statistics by value, and the start of a fresh agent. The Rust's methods of `StunAgent` are functions here, since its type is another
-// crate's. What takes a list of addresses or the statistics record by reference is thin, free of branches, and proved by a walk of its
-// MIR; all tests and effects stand behind `agent::dispatch`.
+// crate's. What takes a list of addresses or the statistics record by reference is thin and free of branches; all tests and effects stand
+// behind `agent::dispatch`.
 #![tactic(auto)]
 
 ghost use Rattle.std.specs.Prelude.{◌≡◌};
@@ -45,7 +45,7 @@ fn index_of(out: Called, places: usize) -> usize
     }
 }
 
-// What an outcome does to the lent list and the lent record. A function of its own: in one piece `call` is too long a walk.
+// What an outcome does to the lent list and the lent record.
 fn settle(out: Called, from: Address, peers: &mut [Address], stats: &mut StunAgentStats) -> Answered
     ensures { Settled out from peers.old peers.new stats.old stats.new result }
 {
@@ -105,7 +105,7 @@ fn step_of(r: Answered, peers: [Address; 64], stats: StunAgentStats) -> Stepped
     }
 }
 
-// `call` on locals that are lent to it: who calls this needs no walk.
+// `call` for a caller that holds the peers and the statistics by value: they are lent to it as locals.
 pub fn door(
     agent: StunAgent,
     c: Call,

@@ -22,7 +22,7 @@ use Rattle.requests.specs.declared.Found.TheVariants.{At}
 use Rattle.model.specs.World.{World, StateFormed}
 use Rattle.model.specs.Calls.{receives, Kind, carries}
 use Rattle.model.specs.Accepts.{is_response}
-use Rattle.model.specs.Refusals.{CLOCK, PEERS-FULL, bad_clock, peers_full, holds, refusal_of}
+use Rattle.model.specs.Refusals.{CLOCK, PEERS_FULL, bad_clock, peers_full, holds, refusal_of}
 use Rattle.model.specs.Says.{says_of}
 use Rattle.model.specs.Runs.{Turn, run}
 use Rattle.model.specs.declared.Answer.TheVariants as answer
@@ -120,7 +120,7 @@ module _ (rows x : ℕ) (s : Start) (q : Submission) (pre post : List Step) (bef
 
 module _ (rows x : ℕ) (w : World) (formed : StateFormed rows w) (r : StunRequestState) (found : request_of (lookup x w.requests) ≡ some r) where
   taken : (k : Kind) (m : List ℕ) (from : Address) (clock : Option ℕ) (y : Message) → k ≡ carries (receives from clock) → message_of m ≡ Good y
-      → is_response y.class ≡ true → key y.transaction_id ≡ x → holds rows w k m CLOCK ≡ false → holds rows w k m PEERS-FULL ≡ false
+      → is_response y.class ≡ true → key y.transaction_id ≡ x → holds rows w k m CLOCK ≡ false → holds rows w k m PEERS_FULL ≡ false
       → (says_of rows w k m).answer ≡ answer.Yes
   taken k m from clock y z reads e named clocked placed =
       let c : bad_clock w (carries (receives from clock)) ≡ false = rw z at clocked in
@@ -133,6 +133,6 @@ module _ (rows x : ℕ) (w : World) (formed : StateFormed rows w) (r : StunReque
       ∙ accepted_yes rows w from clock m y reads (answer_accepted w.requests from y e (At f.0 r) there) passed
 
   pub response_accepted : (t : Turn) → Response x t → holds rows w (kind_in t) t.bytes CLOCK ≡ false
-      → holds rows w (kind_in t) t.bytes PEERS-FULL ≡ false → (said rows w t).answer ≡ answer.Yes
+      → holds rows w (kind_in t) t.bytes PEERS_FULL ≡ false → (said rows w t).answer ≡ answer.Yes
   response_accepted t y clocked placed =
       taken (kind_in t) t.bytes y.from y.clock y.message y.is_received y.reads y.responds y.named clocked placed

@@ -11,7 +11,7 @@ use Rattle.message.specs.declared.Parsed.TheVariants.{Good}
 use Rattle.waits.specs.Waits.{milliseconds}
 use Rattle.model.specs.Calls.{receives, carries}
 use Rattle.model.specs.Accepts.{is_response}
-use Rattle.model.specs.Refusals.{CLOCK, PEERS-FULL, holds}
+use Rattle.model.specs.Refusals.{CLOCK, PEERS_FULL, holds}
 use Rattle.model.specs.Runs.{Turn}
 use Rattle.model.specs.declared.Answer.{Answer}
 use Rattle.model.specs.declared.Answer.TheVariants as answer
@@ -54,5 +54,5 @@ pub record UnsetWaits (x first : ℕ) (l : List Exchange) (ticks : List ℕ) (o 
   pub never_sooner : (t : ℕ) → timed_out_at x l ≡ t ∷ [] → ends_at first (sent_in x l) ≤ t
   -- Until such a round a response is accepted, unless its clock is refused, or its sender is new and the list of peers full.
   pub accepted : AllBefore (ends_at first (sent_in x l)) ticks → (t : Turn) (a : Answer) (o' : Owned) → Response x t → Calls o t a o'
-      → holds 32 (world_in o) (kind_in t) t.bytes CLOCK ≡ false → holds 32 (world_in o) (kind_in t) t.bytes PEERS-FULL ≡ false
+      → holds 32 (world_in o) (kind_in t) t.bytes CLOCK ≡ false → holds 32 (world_in o) (kind_in t) t.bytes PEERS_FULL ≡ false
       → a ≡ answer.Yes

@@ -48,7 +48,7 @@ use Rattle.requests.proofs.Kept.{formed_later, formed_added, formed_removed, for
 use Rattle.model.specs.World.{World, StateFormed}
 use Rattle.model.specs.Calls.{submits, sends, receives, transmits, reports, Wish, silence, cancel, configure, query, Kind, carries, scans, names, meets, counts, clock_of, wish_settings, on_some}
 use Rattle.model.specs.Accepts.{on_message, is_found, is_outstanding, is_response, accepts, new_peer}
-use Rattle.model.specs.Refusals.{SETTINGS, CLOCK, TOO-LONG, IN-PROGRESS, PEERS-FULL, Refusal, holds}
+use Rattle.model.specs.Refusals.{SETTINGS, CLOCK, TOO_LONG, IN_PROGRESS, PEERS_FULL, Refusal, holds}
 use Rattle.model.specs.Effects.{on_found, on_row, Change, keeps, adds, removes, sets, steps, changed, count_after, new_request, taken, answered, reported, wished, change_of, mark_after}
 
 -- ---- what a change has to be
@@ -101,7 +101,7 @@ module _ (rows : ℕ) (w : World) (k : Kind) (m : List ℕ) (passes : (r : Refus
 
   -- A new peer has a place.
   pub peer_fits : (a : Address) → new_peer w k m ≡ some a → w.agent.peers < length w.peers
-  peer_fits a e = leb-false (length w.peers) w.agent.peers (go (new_peer w k m) e (passes PEERS-FULL))
+  peer_fits a e = leb-false (length w.peers) w.agent.peers (go (new_peer w k m) e (passes PEERS_FULL))
     where
       go : (o : Option Address) → o ≡ some a → on_some o false (λ a. leb (length w.peers) w.agent.peers) ≡ false
           → leb (length w.peers) w.agent.peers ≡ false
@@ -113,7 +113,7 @@ module _ (rows : ℕ) (w : World) (m : List ℕ) (formed : StateFormed rows w) w
   submit_fits : (to : Address) (now : ℕ) → ((r : Refusal) → holds rows w (carries (submits to now)) m r ≡ false)
       → Fits rows now w.requests m (on_some (new_request rows w to now m) keeps adds)
   unfolding new_request
-  submit_fits to now passes = go (message_of m) refl (passes IN-PROGRESS)
+  submit_fits to now passes = go (message_of m) refl (passes IN_PROGRESS)
     where
       joins : (x : Message) (row : ℕ) → message_of m ≡ Good x → is_outstanding w.requests x.transaction_id ≡ false
           → free_row rows w.requests ≡ Row row
@@ -127,7 +127,7 @@ module _ (rows : ℕ) (w : World) (m : List ℕ) (formed : StateFormed rows w) w
                 submitted_limits rows x.transaction_id x.integrity row (length m) to w.agent.rto
                 (record {
                   least = good_length m x e;
-                  most = ltb-false 1024 (length m) (passes TOO-LONG);
+                  most = ltb-false 1024 (length m) (passes TOO_LONG);
                   is_row = (free_row_lem rows w.requests row f).below;
                   settings = formed.settings;
                 })

@@ -14,7 +14,7 @@ use lib.ListN.{get_elem?}
 use Rattle.requests.proofs.Lists.{apart, some_same, none_some}
 use Rattle.model.specs.World.{World, state_formed}
 use Rattle.model.specs.Calls.{Kind}
-use Rattle.model.specs.Refusals.{Refusal, STATE, SETTINGS, CLOCK, TOO-LONG, BAD-MESSAGE, WRONG-CLASS, IN-PROGRESS, TABLE-FULL, NO-REQUEST, PEERS-FULL, NO-STATS, COUNTS, number_of, holds, refusals, lowest, refusal_of, refusal_past}
+use Rattle.model.specs.Refusals.{Refusal, STATE, SETTINGS, CLOCK, TOO_LONG, BAD_MESSAGE, WRONG_CLASS, IN_PROGRESS, TABLE_FULL, NO_REQUEST, PEERS_FULL, NO_STATS, COUNTS, number_of, holds, refusals, lowest, refusal_of, refusal_past}
 use Rattle.model.specs.Effects.{answer_of, after}
 use Rattle.model.specs.Says.{says_of}
 use Rattle.model.specs.declared.Answer.TheVariants as answer
@@ -37,14 +37,14 @@ stands : (r : Refusal) → (i : ℕ) × (get_elem? refusals i ≡ some r)
 stands STATE = (0, refl)
 stands SETTINGS = (1, refl)
 stands CLOCK = (2, refl)
-stands TOO-LONG = (3, refl)
-stands BAD-MESSAGE = (4, refl)
-stands WRONG-CLASS = (5, refl)
-stands IN-PROGRESS = (6, refl)
-stands TABLE-FULL = (7, refl)
-stands NO-REQUEST = (8, refl)
-stands PEERS-FULL = (9, refl)
-stands NO-STATS = (10, refl)
+stands TOO_LONG = (3, refl)
+stands BAD_MESSAGE = (4, refl)
+stands WRONG_CLASS = (5, refl)
+stands IN_PROGRESS = (6, refl)
+stands TABLE_FULL = (7, refl)
+stands NO_REQUEST = (8, refl)
+stands PEERS_FULL = (9, refl)
+stands NO_STATS = (10, refl)
 stands COUNTS = (11, refl)
 
 -- ---- the lowest of any tests

@@ -39,7 +39,7 @@ use Rattle.requests.proofs.Free.{free_row_lem, free_exists}
 use Rattle.model.specs.World.{World, StateFormed, state_formed}
 use Rattle.model.specs.Calls.{submits, sends, receives, transmits, reports, Wish, silence, cancel, configure, query, Kind, carries, scans, names, meets, counts, passage_of, on_some}
 use Rattle.model.specs.Accepts.{on_message, accepts, is_response}
-use Rattle.model.specs.Refusals.{Refusal, BAD-MESSAGE, WRONG-CLASS, TABLE-FULL, is_request, is_submitted, holds, refusal_of}
+use Rattle.model.specs.Refusals.{Refusal, BAD_MESSAGE, WRONG_CLASS, TABLE_FULL, is_request, is_submitted, holds, refusal_of}
 use Rattle.model.specs.Effects.{on_found, keeps, adds, new_request, taken, answered, reported, wished, change_of, answer_of, stored_by, after}
 use Rattle.model.specs.Says.{Said, says_of}
 use Rattle.requests.specs.Use.{in_use}
@@ -156,7 +156,7 @@ module _ (rows : ℕ) (w : World) (to : Address) (now : ℕ) (m : List ℕ) wher
       accepted = record {
         message = x;
         reads = reads;
-        class_is = is_request_lem x.class (rw reads at (passes WRONG-CLASS));
+        class_is = is_request_lem x.class (rw reads at (passes WRONG_CLASS));
         row = row;
         lowest = lowest;
         new = ap (λ (id : TransactionId). lookup (key id) w.requests) (sym fields.id_is) ∙ joins.new;
@@ -173,8 +173,8 @@ module _ (rows : ℕ) (w : World) (to : Address) (now : ℕ) (m : List ℕ) wher
   pub request_accepted : StateFormed rows w → refusal_of rows w (carries (submits to now)) m ≡ 0 → RequestAccepted rows w to now m (says_of rows w (carries (submits to now)) m)
   request_accepted formed zero_is =
       let passes = (passed_exactly rows w (carries (submits to now)) m).0 zero_is in
-      let read = good (message_of m) (passes BAD-MESSAGE) in
-      let free = free_exists rows w.requests (leb-false rows (length w.requests) (passes TABLE-FULL)) in
+      let read = good (message_of m) (passes BAD_MESSAGE) in
+      let free = free_exists rows w.requests (leb-false rows (length w.requests) (passes TABLE_FULL)) in
       rw (passed_does rows w (carries (submits to now)) m zero_is) (accepted read.0 free.0 read.1 free.1 formed passes)
 
 -- ---- any other call

@@ -18,28 +18,28 @@ pub data Refusal : Type 0 where
   STATE : Refusal
   SETTINGS : Refusal
   CLOCK : Refusal
-  TOO-LONG : Refusal
-  BAD-MESSAGE : Refusal
-  WRONG-CLASS : Refusal
-  IN-PROGRESS : Refusal
-  TABLE-FULL : Refusal
-  NO-REQUEST : Refusal
-  PEERS-FULL : Refusal
-  NO-STATS : Refusal
+  TOO_LONG : Refusal
+  BAD_MESSAGE : Refusal
+  WRONG_CLASS : Refusal
+  IN_PROGRESS : Refusal
+  TABLE_FULL : Refusal
+  NO_REQUEST : Refusal
+  PEERS_FULL : Refusal
+  NO_STATS : Refusal
   COUNTS : Refusal
 
 abbrev pub number_of : Refusal → ℕ
 number_of STATE = 1
 number_of SETTINGS = 2
 number_of CLOCK = 3
-number_of TOO-LONG = 4
-number_of BAD-MESSAGE = 5
-number_of WRONG-CLASS = 6
-number_of IN-PROGRESS = 7
-number_of TABLE-FULL = 8
-number_of NO-REQUEST = 9
-number_of PEERS-FULL = 10
-number_of NO-STATS = 11
+number_of TOO_LONG = 4
+number_of BAD_MESSAGE = 5
+number_of WRONG_CLASS = 6
+number_of IN_PROGRESS = 7
+number_of TABLE_FULL = 8
+number_of NO_REQUEST = 9
+number_of PEERS_FULL = 10
+number_of NO_STATS = 11
 number_of COUNTS = 12
 
 -- 1: "store too short, peer count above the lent list, or a state not well formed"
@@ -123,19 +123,19 @@ abbrev pub holds : ℕ → World → Kind → List ℕ → Refusal → Bool
 holds rows w k m STATE = bad_state rows w
 holds rows w k m SETTINGS = bad_settings k
 holds rows w k m CLOCK = bad_clock w k
-holds rows w k m TOO-LONG = too_long k m
-holds rows w k m BAD-MESSAGE = bad_message k m
-holds rows w k m WRONG-CLASS = wrong_class k m
-holds rows w k m IN-PROGRESS = in_progress w k m
-holds rows w k m TABLE-FULL = table_full rows w k
-holds rows w k m NO-REQUEST = no_request w k
-holds rows w k m PEERS-FULL = peers_full w k m
-holds rows w k m NO-STATS = no_stats w k
+holds rows w k m TOO_LONG = too_long k m
+holds rows w k m BAD_MESSAGE = bad_message k m
+holds rows w k m WRONG_CLASS = wrong_class k m
+holds rows w k m IN_PROGRESS = in_progress w k m
+holds rows w k m TABLE_FULL = table_full rows w k
+holds rows w k m NO_REQUEST = no_request w k
+holds rows w k m PEERS_FULL = peers_full w k m
+holds rows w k m NO_STATS = no_stats w k
 holds rows w k m COUNTS = bad_counts w k
 
 -- In ascending order of their numbers: all of them, and those behind the test of the state.
 abbrev pub past_state : List Refusal
-past_state = SETTINGS ∷ CLOCK ∷ TOO-LONG ∷ BAD-MESSAGE ∷ WRONG-CLASS ∷ IN-PROGRESS ∷ TABLE-FULL ∷ NO-REQUEST ∷ PEERS-FULL ∷ NO-STATS ∷ COUNTS ∷ []
+past_state = SETTINGS ∷ CLOCK ∷ TOO_LONG ∷ BAD_MESSAGE ∷ WRONG_CLASS ∷ IN_PROGRESS ∷ TABLE_FULL ∷ NO_REQUEST ∷ PEERS_FULL ∷ NO_STATS ∷ COUNTS ∷ []
 
 abbrev pub refusals : List Refusal
 refusals = STATE ∷ past_state

@@ -1,4 +1,2 @@
--- What the walks over a slice of addresses share.
+-- The laws of the scan over a list of addresses.
 mod Scan
-mod Peer
-mod Walk

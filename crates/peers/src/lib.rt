@@ -1,5 +1,5 @@
 // The list of peer addresses that the host lends: the Rust's `validated_peers`, a set, is a slice of which the first so many are in use.
-// The two functions over it are thin, and proved by walks of their MIR.
+// The two functions over it are thin.
 #![tactic(auto)]
 
 ghost use Rattle.std.specs.Prelude.{◌≡◌, ◌||◌, min, set, take};
@@ -8,7 +8,7 @@ ghost use Rattle.peers.specs.Peers.{listed};
 
 use address::Address;
 
-// What a turn of the scan does, so that no branch is left to the walk.
+// What a turn of the scan does: what was found stays found.
 fn or_same(found: bool, p: Address, a: Address) -> bool
     ensures { result ≡ (found || same_address p a) }
 {

@@ -34,7 +34,7 @@ use Rattle.stats.proofs.Query.{not_below_zero}
 use Rattle.model.specs.World.{World}
 use Rattle.model.specs.Calls.{submits, sends, receives, transmits, reports, Wish, silence, cancel, configure, query, unsettled, Kind, carries, scans, names, meets, counts}
 use Rattle.model.specs.Accepts.{on_message, is_response, accepts}
-use Rattle.model.specs.Refusals.{WRONG-CLASS, is_request, refusal_of}
+use Rattle.model.specs.Refusals.{WRONG_CLASS, is_request, refusal_of}
 use Rattle.model.specs.Effects.{on_found, keeps, changed, taken, answered, reported, wished, yes_or_no, poll_answer}
 use Rattle.model.specs.Says.{says_of}
 use Rattle.model.specs.Runs.{Turn, with, run}
@@ -99,7 +99,7 @@ module _ (rows : ℕ) (w : World) (m : List ℕ) where
   passed_keeps (carries (sends to)) e =
       let d = done rows w (carries (sends to)) m e in
       rw (d.requests, d.answer, answer_sends rows w m to, change_sends rows w m to)
-      (go (message_of m) ((passed_exactly rows w (carries (sends to)) m).0 e WRONG-CLASS))
+      (go (message_of m) ((passed_exactly rows w (carries (sends to)) m).0 e WRONG_CLASS))
     where
       go : (p : Parsed) → on_message p false (λ x. is_request x.class) ≡ false
           → cond (on_message p false (λ x. is_request x.class)) 1 0 + length w.requests ≡ 0 + length w.requests

@@ -37,7 +37,7 @@ use Rattle.requests.proofs.Lists.{apart, neither}
 use Rattle.model.specs.World.{World}
 use Rattle.model.specs.Calls.{submits, sends, receives, transmits, reports, numbers, mean, unsettled, anew, Kind, carries, scans, names, meets, counts}
 use Rattle.model.specs.Accepts.{on_message, accepts}
-use Rattle.model.specs.Refusals.{BAD-MESSAGE, WRONG-CLASS, is_request, refusal_of}
+use Rattle.model.specs.Refusals.{BAD_MESSAGE, WRONG_CLASS, is_request, refusal_of}
 use Rattle.model.specs.Effects.{transmit_answer, poll_answer, yes_or_no, sent_as, received_as, rtt_at, transmit_event, poll_event, event_by}
 use Rattle.model.specs.Says.{Said, says_of}
 use Rattle.model.specs.Fresh.{fresh_event}
@@ -159,7 +159,7 @@ module _ (rows : ℕ) (w : World) (m : List ℕ) where
       rw (a.answers, a.reads, a.class_is, add-zero)
   tallied (carries (sends to)) kept e =
       let passes = (passed_exactly rows w (carries (sends to)) m).0 e in
-      rw ((done rows w (carries (sends to)) m e).answer, answer_sends rows w m to) (go (message_of m) refl (passes BAD-MESSAGE) (passes WRONG-CLASS))
+      rw ((done rows w (carries (sends to)) m e).answer, answer_sends rows w m to) (go (message_of m) refl (passes BAD_MESSAGE) (passes WRONG_CLASS))
     where
       go : (p : Parsed) → message_of m ≡ p → on_message p true (λ x. false) ≡ false → on_message p false (λ x. is_request x.class) ≡ false
           → amounts_of (on_message p event.Nothing (λ x. sent_as (length m) x.class)) ≡ amounts_in (seen (carries (sends to)) m answer.Ok)

@@ -7,26 +7,29 @@ mod requests;
 mod rows;
 mod say;
 
-fn main() {
-    requests::due_and_end();
-    requests::late_calls();
-    requests::few_sends();
-    requests::capped_waits();
-    requests::by_tcp();
-    requests::silenced();
-    requests::cancelled();
-    requests::never_sent();
-    requests::configured();
-    requests::zero_waits();
-    requests::round_trips();
-    requests::longest();
-    requests::limits_of_settings();
-    requests::limits_of_records();
-    requests::limits_of_times();
-    counting::zeroed();
-    counting::each_event();
-    counting::stops();
-    counting::outstanding();
-    rows::copies();
-    rows::edges();
+use std::io;
+
+fn main(rt: HostRuntime) -> io::Result<()> {
+    let mut out = io::writer(&rt);
+    requests::due_and_end(&mut out)?;
+    requests::late_calls(&mut out)?;
+    requests::few_sends(&mut out)?;
+    requests::capped_waits(&mut out)?;
+    requests::by_tcp(&mut out)?;
+    requests::silenced(&mut out)?;
+    requests::cancelled(&mut out)?;
+    requests::never_sent(&mut out)?;
+    requests::configured(&mut out)?;
+    requests::zero_waits(&mut out)?;
+    requests::round_trips(&mut out)?;
+    requests::longest(&mut out)?;
+    requests::limits_of_settings(&mut out)?;
+    requests::limits_of_records(&mut out)?;
+    requests::limits_of_times(&mut out)?;
+    counting::zeroed(&mut out)?;
+    counting::each_event(&mut out)?;
+    counting::stops(&mut out)?;
+    counting::outstanding(&mut out)?;
+    rows::copies(&mut out)?;
+    rows::edges(&mut out)
 }

@@ -5,6 +5,8 @@ use crate::say;
 use address::{Address, Host};
 use message::{Integrity, TransactionId};
 use request::{SendTimes, StunRequestPollRet, StunRequestState, StunRequestTransmit};
+use std::io;
+use std::io::Write;
 use waits::{RequestRto, Transport};
 
 const LAST_CLOCK: u64 = 1152921504606846976;
@@ -50,228 +52,264 @@ fn by_udp(retransmits: u32) -> StunRequestState {
 }
 
 // Each call tests the record first, since the calls ask for one within limits.
-fn transmit(r: StunRequestState, transport: Transport, now: u64) -> StunRequestState {
+fn transmit<W: Write>(
+    out: &mut W,
+    r: StunRequestState,
+    transport: Transport,
+    now: u64,
+) -> io::Result<StunRequestState> {
     if !r.within_limits(LAST_CLOCK) {
-        say::line(b"outside");
-        return r;
+        say::line(out, b"outside")?;
+        return Ok(r);
     }
     let answer = r.poll_transmit(transport, now);
     match answer {
         StunRequestTransmit::Rests => {
-            say::line(b"rests");
-            r
+            say::line(out, b"rests")?;
+            Ok(r)
         }
         StunRequestTransmit::Passes(q) => {
-            say::line(b"passes");
-            q
+            say::line(out, b"passes")?;
+            Ok(q)
         }
         StunRequestTransmit::Goes(q) => {
-            say::line(b"goes");
-            q
+            say::line(out, b"goes")?;
+            Ok(q)
         }
     }
 }
 
-fn poll(r: StunRequestState, transport: Transport, now: u64) {
+fn poll<W: Write>(
+    out: &mut W,
+    r: StunRequestState,
+    transport: Transport,
+    now: u64,
+) -> io::Result<()> {
     if !r.within_limits(LAST_CLOCK) {
-        say::line(b"outside");
-        return;
+        return say::line(out, b"outside");
     }
     let answer = r.poll(transport, now);
     match answer {
         StunRequestPollRet::WaitUntil(clock) => {
-            say::word(b"wait");
-            say::number(clock);
-            say::end();
+            say::word(out, b"wait")?;
+            say::number(out, clock)?;
+            say::end(out)
         }
-        StunRequestPollRet::Cancelled => say::line(b"cancelled"),
-        StunRequestPollRet::TimedOut => say::line(b"timed out"),
+        StunRequestPollRet::Cancelled => say::line(out, b"cancelled"),
+        StunRequestPollRet::TimedOut => say::line(out, b"timed out"),
     }
 }
 
-fn round_trip(r: StunRequestState, now: u64) {
+fn round_trip<W: Write>(out: &mut W, r: StunRequestState, now: u64) -> io::Result<()> {
     if !r.within_limits(now) {
-        say::line(b"outside");
-        return;
+        return say::line(out, b"outside");
     }
-    say::word(b"rtt");
-    say::time(r.round_trip(now));
-    say::end();
+    say::word(out, b"rtt")?;
+    say::time(out, r.round_trip(now))?;
+    say::end(out)
 }
 
-fn limits(r: StunRequestState, mark: u64) {
+fn limits<W: Write>(out: &mut W, r: StunRequestState, mark: u64) -> io::Result<()> {
     if r.within_limits(mark) {
-        say::line(b"within");
-        return;
+        return say::line(out, b"within");
     }
-    say::line(b"outside");
+    say::line(out, b"outside")
 }
 
-pub fn due_and_end() {
-    say::line(b"# R = 3: waits 500 and 1000, then the end");
+pub fn due_and_end<W: Write>(out: &mut W) -> io::Result<()> {
+    say::line(out, b"# R = 3: waits 500 and 1000, then the end")?;
     let r = by_udp(3);
-    poll(r, Transport::Udp, 0);
-    let r = transmit(r, Transport::Udp, 499);
-    let r = transmit(r, Transport::Udp, 500);
-    poll(r, Transport::Udp, 500);
-    let r = transmit(r, Transport::Udp, 1500);
-    poll(r, Transport::Udp, 1500);
-    let r = transmit(r, Transport::Udp, 9499);
-    poll(r, Transport::Udp, 9499);
-    poll(r, Transport::Udp, 9500);
-    transmit(r, Transport::Udp, 9500);
+    poll(out, r, Transport::Udp, 0)?;
+    let r = transmit(out, r, Transport::Udp, 499)?;
+    let r = transmit(out, r, Transport::Udp, 500)?;
+    poll(out, r, Transport::Udp, 500)?;
+    let r = transmit(out, r, Transport::Udp, 1500)?;
+    poll(out, r, Transport::Udp, 1500)?;
+    let r = transmit(out, r, Transport::Udp, 9499)?;
+    poll(out, r, Transport::Udp, 9499)?;
+    poll(out, r, Transport::Udp, 9500)?;
+    transmit(out, r, Transport::Udp, 9500)?;
+    Ok(())
 }
 
-pub fn late_calls() {
-    say::line(b"# the next wait counts from the actual send, and nothing ends with steps left");
+pub fn late_calls<W: Write>(out: &mut W) -> io::Result<()> {
+    say::line(
+        out,
+        b"# the next wait counts from the actual send, and nothing ends with steps left",
+    )?;
     let r = by_udp(3);
-    poll(r, Transport::Udp, 700);
-    let r = transmit(r, Transport::Udp, 700);
-    poll(r, Transport::Udp, 700);
-    poll(r, Transport::Udp, 50000);
-    let r = transmit(r, Transport::Udp, 50000);
-    poll(r, Transport::Udp, 50000);
+    poll(out, r, Transport::Udp, 700)?;
+    let r = transmit(out, r, Transport::Udp, 700)?;
+    poll(out, r, Transport::Udp, 700)?;
+    poll(out, r, Transport::Udp, 50000)?;
+    let r = transmit(out, r, Transport::Udp, 50000)?;
+    poll(out, r, Transport::Udp, 50000)
 }
 
-pub fn few_sends() {
-    say::line(b"# R = 1 and R = 0: no wait");
+pub fn few_sends<W: Write>(out: &mut W) -> io::Result<()> {
+    say::line(out, b"# R = 1 and R = 0: no wait")?;
     let r = by_udp(1);
-    poll(r, Transport::Udp, 0);
-    transmit(r, Transport::Udp, 7999);
-    poll(r, Transport::Udp, 8000);
-    poll(by_udp(0), Transport::Udp, 0);
+    poll(out, r, Transport::Udp, 0)?;
+    transmit(out, r, Transport::Udp, 7999)?;
+    poll(out, r, Transport::Udp, 8000)?;
+    poll(out, by_udp(0), Transport::Udp, 0)
 }
 
-pub fn capped_waits() {
-    say::line(b"# a maximum of 3000 with R = 6");
+pub fn capped_waits<W: Write>(out: &mut W) -> io::Result<()> {
+    say::line(out, b"# a maximum of 3000 with R = 6")?;
     let r = sent(Transport::Udp, 0, settings(500, 3000, 6, 8000));
-    let r = transmit(r, Transport::Udp, 500);
-    let r = transmit(r, Transport::Udp, 1500);
-    let r = transmit(r, Transport::Udp, 3500);
-    let r = transmit(r, Transport::Udp, 6499);
-    let r = transmit(r, Transport::Udp, 6500);
-    let r = transmit(r, Transport::Udp, 9500);
-    poll(r, Transport::Udp, 9500);
+    let r = transmit(out, r, Transport::Udp, 500)?;
+    let r = transmit(out, r, Transport::Udp, 1500)?;
+    let r = transmit(out, r, Transport::Udp, 3500)?;
+    let r = transmit(out, r, Transport::Udp, 6499)?;
+    let r = transmit(out, r, Transport::Udp, 6500)?;
+    let r = transmit(out, r, Transport::Udp, 9500)?;
+    poll(out, r, Transport::Udp, 9500)
 }
 
-pub fn by_tcp() {
-    say::line(b"# TCP: sent once, and as long in all as UDP");
+pub fn by_tcp<W: Write>(out: &mut W) -> io::Result<()> {
+    say::line(out, b"# TCP: sent once, and as long in all as UDP")?;
     let r = sent(Transport::Tcp, 0, usual(7));
-    poll(r, Transport::Tcp, 0);
-    transmit(r, Transport::Tcp, 500);
-    poll(r, Transport::Tcp, 39499);
-    poll(r, Transport::Tcp, 39500);
+    poll(out, r, Transport::Tcp, 0)?;
+    transmit(out, r, Transport::Tcp, 500)?;
+    poll(out, r, Transport::Tcp, 39499)?;
+    poll(out, r, Transport::Tcp, 39500)
 }
 
-pub fn silenced() {
-    say::line(b"# retransmissions cancelled: steps pass, then cancelled at once, then the end");
+pub fn silenced<W: Write>(out: &mut W) -> io::Result<()> {
+    say::line(
+        out,
+        b"# retransmissions cancelled: steps pass, then cancelled at once, then the end",
+    )?;
     let r = by_udp(3).cancel_retransmissions();
-    poll(r, Transport::Udp, 0);
-    let r = transmit(r, Transport::Udp, 500);
-    poll(r, Transport::Udp, 500);
-    let r = transmit(r, Transport::Udp, 1600);
-    poll(r, Transport::Udp, 1600);
-    poll(r, Transport::Udp, 9599);
-    poll(r, Transport::Udp, 9600);
+    poll(out, r, Transport::Udp, 0)?;
+    let r = transmit(out, r, Transport::Udp, 500)?;
+    poll(out, r, Transport::Udp, 500)?;
+    let r = transmit(out, r, Transport::Udp, 1600)?;
+    poll(out, r, Transport::Udp, 1600)?;
+    poll(out, r, Transport::Udp, 9599)?;
+    poll(out, r, Transport::Udp, 9600)
 }
 
-pub fn cancelled() {
-    say::line(b"# cancelled: said by the next poll, past the end too; never stepped");
+pub fn cancelled<W: Write>(out: &mut W) -> io::Result<()> {
+    say::line(
+        out,
+        b"# cancelled: said by the next poll, past the end too; never stepped",
+    )?;
     let r = by_udp(3).cancel();
-    let r = transmit(r, Transport::Udp, 500);
-    poll(r, Transport::Udp, 500);
-    poll(r, Transport::Udp, 99999);
-    poll(by_udp(1).cancel(), Transport::Udp, 99999);
+    let r = transmit(out, r, Transport::Udp, 500)?;
+    poll(out, r, Transport::Udp, 500)?;
+    poll(out, r, Transport::Udp, 99999)?;
+    poll(out, by_udp(1).cancel(), Transport::Udp, 99999)
 }
 
-pub fn never_sent() {
-    say::line(b"# without a last send: due now, no count, both times");
+pub fn never_sent<W: Write>(out: &mut W) -> io::Result<()> {
+    say::line(out, b"# without a last send: due now, no count, both times")?;
     let r = fresh(usual(3));
-    poll(r, Transport::Udp, 7);
-    let r = transmit(r, Transport::Udp, 7);
-    poll(r, Transport::Udp, 7);
+    poll(out, r, Transport::Udp, 7)?;
+    let r = transmit(out, r, Transport::Udp, 7)?;
+    poll(out, r, Transport::Udp, 7)?;
     let r = fresh(usual(3)).cancel_retransmissions();
-    poll(r, Transport::Udp, 7);
-    let r = transmit(r, Transport::Udp, 7);
-    poll(r, Transport::Udp, 7);
-    poll(fresh(usual(1)).cancel_retransmissions(), Transport::Udp, 7);
-    poll(fresh(usual(3)).cancel_retransmissions(), Transport::Tcp, 7);
-    transmit(fresh(usual(3)).cancel(), Transport::Udp, 7);
+    poll(out, r, Transport::Udp, 7)?;
+    let r = transmit(out, r, Transport::Udp, 7)?;
+    poll(out, r, Transport::Udp, 7)?;
+    poll(
+        out,
+        fresh(usual(1)).cancel_retransmissions(),
+        Transport::Udp,
+        7,
+    )?;
+    poll(
+        out,
+        fresh(usual(3)).cancel_retransmissions(),
+        Transport::Tcp,
+        7,
+    )?;
+    transmit(out, fresh(usual(3)).cancel(), Transport::Udp, 7)?;
+    Ok(())
 }
 
-pub fn configured() {
-    say::line(b"# configure: other waits, the same count and times");
-    let r = transmit(by_udp(3), Transport::Udp, 500);
+pub fn configured<W: Write>(out: &mut W) -> io::Result<()> {
+    say::line(out, b"# configure: other waits, the same count and times")?;
+    let r = transmit(out, by_udp(3), Transport::Udp, 500)?;
     let s = r.configure_timeout_with_max(settings(500, waits::LONGEST, 1, 100));
-    poll(s, Transport::Udp, 599);
-    poll(s, Transport::Udp, 600);
+    poll(out, s, Transport::Udp, 599)?;
+    poll(out, s, Transport::Udp, 600)?;
     poll(
+        out,
         r.configure_timeout_with_max(settings(40, waits::LONGEST, 3, 8000)),
         Transport::Udp,
         500,
-    );
+    )?;
     poll(
+        out,
         by_udp(1).configure_timeout_with_max(usual(5)),
         Transport::Udp,
         0,
-    );
+    )?;
     poll(
+        out,
         r.cancel().configure_timeout_with_max(usual(5)),
         Transport::Udp,
         500,
-    );
+    )
 }
 
-pub fn zero_waits() {
-    say::line(b"# waits of zero");
+pub fn zero_waits<W: Write>(out: &mut W) -> io::Result<()> {
+    say::line(out, b"# waits of zero")?;
     poll(
+        out,
         sent(Transport::Udp, 5, settings(500, waits::LONGEST, 1, 0)),
         Transport::Udp,
         5,
-    );
+    )?;
     let r = sent(Transport::Udp, 5, settings(0, waits::LONGEST, 2, 8000));
-    poll(r, Transport::Udp, 5);
-    let r = transmit(r, Transport::Udp, 5);
-    poll(r, Transport::Udp, 5);
+    poll(out, r, Transport::Udp, 5)?;
+    let r = transmit(out, r, Transport::Udp, 5)?;
+    poll(out, r, Transport::Udp, 5)
 }
 
-pub fn round_trips() {
-    say::line(b"# round trips: now minus last send, with step count 0");
+pub fn round_trips<W: Write>(out: &mut W) -> io::Result<()> {
+    say::line(
+        out,
+        b"# round trips: now minus last send, with step count 0",
+    )?;
     let r = sent(Transport::Udp, 10, usual(3));
-    round_trip(r, 10);
-    round_trip(r, 25);
-    round_trip(r.cancel(), 99999);
-    round_trip(transmit(r, Transport::Udp, 510), 600);
-    round_trip(
-        transmit(r.cancel_retransmissions(), Transport::Udp, 510),
-        600,
-    );
-    round_trip(fresh(usual(3)), 600);
+    round_trip(out, r, 10)?;
+    round_trip(out, r, 25)?;
+    round_trip(out, r.cancel(), 99999)?;
+    let stepped = transmit(out, r, Transport::Udp, 510)?;
+    round_trip(out, stepped, 600)?;
+    let stepped = transmit(out, r.cancel_retransmissions(), Transport::Udp, 510)?;
+    round_trip(out, stepped, 600)?;
+    round_trip(out, fresh(usual(3)), 600)
 }
 
-pub fn longest() {
-    say::line(b"# the latest clock and the longest waits");
+pub fn longest<W: Write>(out: &mut W) -> io::Result<()> {
+    say::line(out, b"# the latest clock and the longest waits")?;
     let most = waits::LONGEST;
     poll(
+        out,
         sent(Transport::Udp, LAST_CLOCK, settings(most, most, 33, most)),
         Transport::Udp,
         LAST_CLOCK,
-    );
+    )?;
     poll(
+        out,
         sent(Transport::Tcp, LAST_CLOCK, settings(most, most, 33, most)),
         Transport::Tcp,
         LAST_CLOCK,
-    );
+    )
 }
 
-pub fn limits_of_settings() {
-    say::line(b"# settings within limits, and not");
+pub fn limits_of_settings<W: Write>(out: &mut W) -> io::Result<()> {
+    say::line(out, b"# settings within limits, and not")?;
     let most = waits::LONGEST;
-    limits(fresh(settings(most, most, 33, most)), 0);
-    limits(fresh(settings(most, most, 34, most)), 0);
-    limits(fresh(settings(most + 1, most, 33, most)), 0);
-    limits(fresh(settings(most, most + 1, 33, most)), 0);
-    limits(fresh(settings(most, most, 33, most + 1)), 0);
+    limits(out, fresh(settings(most, most, 33, most)), 0)?;
+    limits(out, fresh(settings(most, most, 34, most)), 0)?;
+    limits(out, fresh(settings(most + 1, most, 33, most)), 0)?;
+    limits(out, fresh(settings(most, most + 1, 33, most)), 0)?;
+    limits(out, fresh(settings(most, most, 33, most + 1)), 0)
 }
 
 fn made(row: usize, len: usize, timeout_i: u32, send_times: SendTimes) -> StunRequestState {
@@ -292,22 +330,38 @@ fn made(row: usize, len: usize, timeout_i: u32, send_times: SendTimes) -> StunRe
     }
 }
 
-pub fn limits_of_records() {
-    say::line(b"# lengths, rows and counts");
-    limits(made(0, 19, 0, SendTimes::Never), 0);
-    limits(made(0, 20, 0, SendTimes::Never), 0);
-    limits(made(0, 1024, 0, SendTimes::Never), 0);
-    limits(made(0, 1025, 0, SendTimes::Never), 0);
-    limits(made(31, 20, 0, SendTimes::Never), 0);
-    limits(made(32, 20, 0, SendTimes::Never), 0);
-    limits(made(0, 20, 32, SendTimes::Never), 0);
-    limits(made(0, 20, 33, SendTimes::Never), 0);
+pub fn limits_of_records<W: Write>(out: &mut W) -> io::Result<()> {
+    say::line(out, b"# lengths, rows and counts")?;
+    limits(out, made(0, 19, 0, SendTimes::Never), 0)?;
+    limits(out, made(0, 20, 0, SendTimes::Never), 0)?;
+    limits(out, made(0, 1024, 0, SendTimes::Never), 0)?;
+    limits(out, made(0, 1025, 0, SendTimes::Never), 0)?;
+    limits(out, made(31, 20, 0, SendTimes::Never), 0)?;
+    limits(out, made(32, 20, 0, SendTimes::Never), 0)?;
+    limits(out, made(0, 20, 32, SendTimes::Never), 0)?;
+    limits(out, made(0, 20, 33, SendTimes::Never), 0)
 }
 
-pub fn limits_of_times() {
-    say::line(b"# times against the mark");
-    limits(made(0, 20, 0, SendTimes::Sent { first: 8, last: 9 }), 9);
-    limits(made(0, 20, 0, SendTimes::Sent { first: 9, last: 9 }), 9);
-    limits(made(0, 20, 0, SendTimes::Sent { first: 8, last: 9 }), 8);
-    limits(made(0, 20, 0, SendTimes::Sent { first: 9, last: 8 }), 9);
+pub fn limits_of_times<W: Write>(out: &mut W) -> io::Result<()> {
+    say::line(out, b"# times against the mark")?;
+    limits(
+        out,
+        made(0, 20, 0, SendTimes::Sent { first: 8, last: 9 }),
+        9,
+    )?;
+    limits(
+        out,
+        made(0, 20, 0, SendTimes::Sent { first: 9, last: 9 }),
+        9,
+    )?;
+    limits(
+        out,
+        made(0, 20, 0, SendTimes::Sent { first: 8, last: 9 }),
+        8,
+    )?;
+    limits(
+        out,
+        made(0, 20, 0, SendTimes::Sent { first: 9, last: 8 }),
+        9,
+    )
 }

@@ -1,30 +1,31 @@
-// The words of an answer on standard output.
+// The words of an answer, put to a writer.
 #![tactic(auto)]
 
 use stats::Rtt;
+use std::io;
+use std::io::Write;
 
-pub fn word(text: &[u8]) {
-    io::write_all(1, text);
+pub fn word<W: Write>(out: &mut W, text: &[u8]) -> io::Result<()> {
+    out.write_all(text)
 }
 
-pub fn number(n: u64) {
-    io::write_all(1, b" ");
-    io::print_decimal(1, n);
+pub fn number<W: Write>(out: &mut W, n: u64) -> io::Result<()> {
+    write!(out, " {n}")
 }
 
-pub fn end() {
-    io::write_all(1, b"\n");
+pub fn end<W: Write>(out: &mut W) -> io::Result<()> {
+    word(out, b"\n")
 }
 
-pub fn line(text: &[u8]) {
-    word(text);
-    end();
+pub fn line<W: Write>(out: &mut W, text: &[u8]) -> io::Result<()> {
+    word(out, text)?;
+    end(out)
 }
 
 // A number, or `-` for an absent one.
-pub fn time(t: Rtt) {
+pub fn time<W: Write>(out: &mut W, t: Rtt) -> io::Result<()> {
     match t {
-        Rtt::Absent => word(b" -"),
-        Rtt::Nanos(n) => number(n),
+        Rtt::Absent => word(out, b" -"),
+        Rtt::Nanos(n) => number(out, n),
     }
 }

@@ -7,10 +7,12 @@ ghost use Rattle.records.specs.Coding.{size};
 ghost use Rattle.waits.specs.Waits.{Limits};
 
 use address::{Address, Host};
-use libc::STDOUT_FILENO;
 use message::{Integrity, TransactionId};
 use request::StunRequestState;
 use requests::{Found, Polled, Transmitted};
+use std::env::Env;
+use std::io;
+use std::io::Write;
 use waits::{RequestRto, Transport};
 
 // The largest clock mark, 2^60.
@@ -158,7 +160,7 @@ fn number(text: &[u8]) -> u64 {
     value
 }
 
-fn put_number(x: u64) {
+fn put_number<W: Write>(out: &mut W, x: u64) -> io::Result<()> {
     let mut text = [b'0'; 20];
     let mut rest = x;
     let mut i = 20;
@@ -167,8 +169,8 @@ fn put_number(x: u64) {
         text[i] = b'0' + (rest % 10) as u8;
         rest = rest / 10;
     }
-    io::write_all(STDOUT_FILENO, &text[..]);
-    io::write_all(STDOUT_FILENO, b"\n");
+    out.write_all(&text[..])?;
+    out.write_all(b"\n")
 }
 
 fn run(t: &mut [u64], call: u8, n: usize, turns: u64) -> u64
@@ -182,23 +184,30 @@ fn run(t: &mut [u64], call: u8, n: usize, turns: u64) -> u64
     let mut sum: u64 = 0;
     let mut k: u64 = 0;
     while k < turns {
-        sum = std::num::wrapping_add_u64(sum, turn(t, call, n, k));
+        sum = sum.wrapping_add(turn(t, call, n, k));
         k += 1;
     }
     sum
 }
 
-fn main() {
+// The first bytes of an argument, and zeros behind it or where there is none.
+fn argument<E: Env>(env: &E, i: usize) -> [u8; 16] {
+    let mut text = [0u8; 16];
+    let _ = env.arg(i, &mut text);
+    text
+}
+
+fn main(rt: HostRuntime) -> io::Result<()> {
     let mut t = [0u64; 576];
-    let mut call = [0u8; 16];
-    let mut n = [0u8; 16];
-    let mut turns = [0u8; 16];
-    os::arg(1, &mut call);
-    os::arg(2, &mut n);
-    os::arg(3, &mut turns);
+    let call = argument(&rt, 1);
+    let n = argument(&rt, 2);
+    let turns = argument(&rt, 3);
     let count = number(&n) as usize;
     if count > 32 {
-        return;
+        return Ok(());
     }
-    put_number(run(&mut t, call[0], count, number(&turns)));
+    put_number(
+        &mut io::writer(&rt),
+        run(&mut t, call[0], count, number(&turns)),
+    )
 }

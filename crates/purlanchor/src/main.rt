@@ -5,9 +5,13 @@
 ghost use Rattle.std.specs.Prelude.{◌≤◌, length};
 ghost use Rattle.records.specs.Coding.{size};
 
-use libc::{STDERR_FILENO, STDIN_FILENO, STDOUT_FILENO};
 use line::LONGEST_LINE;
 use replay::Standing;
+use std::env::Env;
+use std::fs::File;
+use std::io::{Input, Read};
+use std::rt::Files;
+use std::{env, io};
 
 // Where a replay stands behind a part of its input: the bytes of it that were used, the bytes of lines that were put, the next line's
 // number, and whether more may follow.
@@ -28,29 +32,34 @@ struct Filled {
 }
 
 // Reads once behind what is there, and says so where it can't.
-fn fill(fd: i32, buf: &mut [u8], have: usize) -> Filled
+fn fill<E: Eprint, R: Read>(rt: &E, trace: &mut R, buf: &mut [u8], have: usize) -> Filled
     requires { have ≤ length buf.old }
     ensures { (have ≤ result.end) × (result.end ≤ length buf.new) }
 {
-    let got = libc::read(fd, &mut buf[have..]);
-    let failed = got < 0;
-    if failed {
-        os::fail(b"purlanchor: the trace can't be read");
-    }
-    let n = io::count(got, &buf[have..]);
-    Filled {
-        end: have + n,
-        failed: failed,
+    match trace.read(&mut buf[have..]) {
+        Ok(n) => Filled {
+            end: have + n,
+            failed: false,
+        },
+        Err(e) => {
+            let _ = eprintln!(rt; "purlanchor: the trace can't be read: {e}");
+            Filled {
+                end: have,
+                failed: true,
+            }
+        }
     }
 }
 
 // Writes the lines, and says so where it can't.
-fn write(lines: &[u8]) -> bool {
-    let written = io::write_all(STDOUT_FILENO, lines);
-    if !written {
-        os::fail(b"purlanchor: the lines can't be written");
+fn write<P: Print + Eprint>(rt: &P, lines: &[u8]) -> bool {
+    match rt.write_all(lines) {
+        Ok(()) => true,
+        Err(e) => {
+            let _ = eprintln!(rt; "purlanchor: the lines can't be written: {e}");
+            false
+        }
     }
-    written
 }
 
 // A record that more input could make whole is left, unless there is no more.
@@ -171,8 +180,9 @@ struct Kept {
 }
 
 // One read; every whole record; the lines out; what is left to the front.
-fn some(
-    fd: i32,
+fn some<P: Print + Eprint, R: Read>(
+    rt: &P,
+    trace: &mut R,
     standing: Standing,
     number: u64,
     buf: &mut [u8],
@@ -184,13 +194,13 @@ fn some(
     requires { (have ≤ length buf.old) × (size ≤ length table.old) }
     ensures { result.have ≤ length buf.new }
 {
-    let filled = fill(fd, buf, have);
+    let filled = fill(rt, trace, buf, have);
     let end = filled.end;
     let last = is_last(filled.failed, end == have);
     let p = turns(standing, number, &buf[..end], table, store, out, last);
     let at = p.at;
     let put = p.put;
-    let written = write(&out[..put]);
+    let written = write(rt, &out[..put]);
     let left = slide(buf, at, end);
     let then = p.standing;
     Kept {
@@ -201,15 +211,21 @@ fn some(
     }
 }
 
-fn run(fd: i32, buf: &mut [u8], table: &mut [u64], store: &mut [u8], out: &mut [u8])
+fn run<P: Print + Eprint, R: Read>(
+    rt: &P,
+    trace: &mut R,
+    buf: &mut [u8],
+    table: &mut [u64],
+    store: &mut [u8],
+    out: &mut [u8],
+)
     requires { size ≤ length table.old }
 {
     let mut standing = replay::start();
     let mut number: u64 = 1;
     let mut have: usize = 0;
-    let mut rounds = u64::MAX;
-    while 0 < rounds {
-        let k = some(fd, standing, number, buf, table, store, out, have);
+    for _ in 0..u64::MAX {
+        let k = some(rt, trace, standing, number, buf, table, store, out, have);
         if !k.more {
             return;
         }
@@ -217,42 +233,60 @@ fn run(fd: i32, buf: &mut [u8], table: &mut [u64], store: &mut [u8], out: &mut [
         standing = then;
         number = k.number;
         have = k.have;
-        rounds -= 1;
     }
 }
 
-// A descriptor of the trace: standard input without an argument, the file that it names with one; -1 where there is none.
-fn open() -> i32 {
-    let arguments = os::arg_count();
-    if arguments <= 1 {
-        return STDIN_FILENO;
-    }
-    if 2 < arguments {
-        io::write_all(STDERR_FILENO, b"purlanchor: one trace at a time\n");
-        return -1;
-    }
-    let mut name = io::buffer();
-    let n = os::arg(1, &mut name);
-    if os::errno() != 0 {
-        os::fail(b"purlanchor: the trace's name");
-        return -1;
-    }
-    let fd = os::open_read(&name[..n]);
-    if fd < 0 {
-        io::write_all(STDERR_FILENO, b"purlanchor: ");
-        os::fail(&name[..n]);
-    }
-    fd
+// What a trace is read from: the input, or a file.
+#[derive(Drop)]
+enum Trace<I, F> {
+    Input(I),
+    File(F),
 }
 
-fn main() {
-    let fd = open();
-    if fd < 0 {
-        return;
+impl<I: Read, F: Read> Read for Trace<I, F> {
+    fn read(&mut self, buf: &mut [u8]) -> io::Result<usize> {
+        match self {
+            Trace::Input(input) => input.read(buf),
+            Trace::File(file) => file.read(buf),
+        }
     }
-    let mut buf = io::large_buffer();
+}
+
+// The trace: standard input without an argument, the file that it names with one; none where there is none.
+fn open<R: Env + Input + Files + Eprint + AllocGlobal>(
+    rt: &R,
+) -> io::Result<Option<Trace<R::Reader, R::File>>> {
+    let mut arguments = match env::args(rt) {
+        Ok(all) => all.skip(1),
+        Err(e) => {
+            eprintln!(rt; "purlanchor: the trace's name: {e}")?;
+            return Ok(None);
+        }
+    };
+    let Some(name) = arguments.next() else {
+        return Ok(Some(Trace::Input(rt.reader())));
+    };
+    if arguments.next().is_some() {
+        eprintln!(rt; "purlanchor: one trace at a time")?;
+        return Ok(None);
+    }
+    match File::open(rt, &name) {
+        Ok(file) => Ok(Some(Trace::File(file))),
+        Err(e) => {
+            eprintln!(rt; "purlanchor: {name}: {e}")?;
+            Ok(None)
+        }
+    }
+}
+
+fn main(rt: HostRuntime) -> io::Result<()> {
+    let Some(mut trace) = open(&rt)? else {
+        return Ok(());
+    };
+    let mut buf = [0u8; 65536];
     let mut table = [0u64; 576];
     let mut store = [0u8; 32768];
-    let mut out = io::large_buffer();
-    run(fd, &mut buf, &mut table, &mut store, &mut out);
+    let mut out = [0u8; 65536];
+    run(&rt, &mut trace, &mut buf, &mut table, &mut store, &mut out);
+    Ok(())
 }

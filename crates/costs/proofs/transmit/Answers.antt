@@ -1,0 +1,11 @@
+-- A table that passed the test is scanned.
+use Rattle.std.proofs.Common.{not, ap}
+use Rattle.costs.proofs.Tested.{few, within}
+use Rattle.costs.proofs.transmit.Goals as goal
+
+pub poll_transmit-requires : goal.poll_transmit-requires
+poll_transmit-requires c =
+    let e = c.is_formed.ensures in
+    let p = ap not c.if-not-is_formed.false in
+    let a = c.args in
+    (few a.n a.t.now _ e p, c.requires, within a.n a.t.now _ e p)

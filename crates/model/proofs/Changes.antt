@@ -3,7 +3,7 @@
 --     mark_later, mark_most       the mark never falls, nor passes 2^60
 --     peer_fits                   a new peer has a place
 --     changed_formed, changed_count    a change that fits keeps the requests well formed, and their number
-use Prim.Native.Nat.{ℕ, ◌+◌, ◌-◌, ◌^◌, ◌≤◌, ◌<◌}
+use Prim.Native.Nat.{ℕ, ◌+◌, ◌^◌, ◌≤◌, ◌<◌}
 use mathlib.Core.Path.{◌≡◌, refl, sym, ap, ◌∙◌}
 use mathlib.Core.Bool.{Bool, true, false, cond, not, ◌||◌}
 use mathlib.Core.List.{List}

@@ -8,7 +8,7 @@
 --     other_received                        a received request or indication touches no request
 --     validated_known, sender_validated     every accepted message validates its sender
 --     known_kept                            a peer stays one, whatever the call
-use Prim.Native.Nat.{ℕ, zero, suc, ◌+◌}
+use Prim.Native.Nat.{ℕ, zero, suc}
 use mathlib.Core.Path.{◌≡◌, refl, sym, ap, ◌∙◌}
 use mathlib.Core.Bool.{Bool, true, false, cond, ◌||◌}
 use mathlib.Core.List.{List, [], ◌∷◌, ◌++◌}

@@ -6,7 +6,7 @@
 --     scanned, scanned_found                           the same by the request that goes out: those up to it are passed by
 --     loud_met, changes_exactly                        of one that isn't silenced: that depends on the request and the clock
 --     walk_by_lem                                          the scan over other places that hold a request each
-use Prim.Native.Nat.{ℕ, zero, suc, ◌+◌, ◌≤◌, ◌<◌}
+use Prim.Native.Nat.{ℕ, zero, suc, ◌≤◌, ◌<◌}
 use mathlib.Core.Path.{◌≡◌, refl, sym, ap, ◌∙◌, subst}
 use mathlib.Core.Bool.{Bool, true, false, cond}
 use mathlib.Core.Logic.{◌↔◌}

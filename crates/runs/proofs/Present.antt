@@ -3,7 +3,7 @@
 --     Went, transmits_went       the transmissions of a round
 --     Outcome, polls_outcome     its polls, and that its wait is at most x's next moment
 --     Closed, present_run        a run
-use Prim.Native.Nat.{ℕ, ◌+◌, ◌^◌, ◌≤◌, zero, suc}
+use Prim.Native.Nat.{ℕ, ◌^◌, ◌≤◌, zero, suc}
 use mathlib.Core.Path.{◌≡◌, refl, sym, ap, ◌∙◌, subst}
 use mathlib.Core.Bool.{true, false, and-false}
 use mathlib.Core.List.{List, [], ◌∷◌, ◌++◌, append_assoc, append-nil}
@@ -25,7 +25,6 @@ use Rattle.requests.specs.declared.Found.{Found}
 use Rattle.requests.specs.declared.Found.TheVariants.{At, Nothing}
 use Rattle.requests.specs.declared.Transmitted.{Transmitted}
 use Rattle.requests.specs.declared.Polled.{Polled}
-use Rattle.requests.specs.declared.Polled.TheVariants.{TimedOut, Cancelled, WaitUntil}
 use Rattle.requests.proofs.Lists.{apart, some_same, none_some}
 use Rattle.requests.proofs.Search.{found_at, lookup_taken}
 use Rattle.requests.proofs.Transmits.{MetLoud, goes, other, none_goes, transmit_found, loud_met}

@@ -3,7 +3,7 @@
 --     wait_positive                  where neither initial nor maximum is zero, no wait is
 --     Rested, rested                 a request that a transmission has passed by isn't due, unless it is silent and has a wait of zero
 --     Staying, staying               one that a poll has passed by
-use Prim.Native.Nat.{ℕ, zero, suc, ◌<◌, max}
+use Prim.Native.Nat.{ℕ, zero, suc, ◌<◌}
 use mathlib.Core.Path.{◌≡◌, refl, sym, ◌∙◌}
 use mathlib.Core.Bool.{Bool, true, false, cond, not, ◌&&◌, ◌||◌}
 use mathlib.Core.List.{List, [], ◌∷◌}

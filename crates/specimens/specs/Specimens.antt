@@ -1,6 +1,6 @@
 -- Document 01, "Specimens": what the definitions of the layers give, beside what the document says. One list for all layers: a later
 -- layer adds its specimens to it.
-use Rattle.std.specs.Prelude.{ℕ, zero, suc, ◌+◌, ◌-◌, ◌/◌, ◌%◌, ◌^◌, ◌≡◌, true, false, List, [], ◌∷◌, ◌++◌, map, take, replicate}
+use Rattle.std.specs.Prelude.{ℕ, zero, suc, ◌-◌, ◌/◌, ◌%◌, ◌^◌, ◌≡◌, true, false, List, [], ◌∷◌, ◌++◌, map, take, replicate}
 use Rattle.address.specs.declared.Host.TheVariants.{V4}
 use Rattle.message.specs.Attributes.{message_of}
 use Rattle.message.specs.declared.MessageClass.{MessageClass}

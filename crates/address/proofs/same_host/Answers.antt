@@ -1,6 +1,5 @@
 -- `address::same_host` meets its contract, by the variants that the arms know.
 -- Assumes nothing.
-use borrow.Author.Rules.{rules}
 use Rattle.address.proofs.same_host.Goals as goal
 
 pub returns-in-V4-b : goal.returns-in-V4-b

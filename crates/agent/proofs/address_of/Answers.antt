@@ -2,7 +2,6 @@
 use mathlib.Core.Path.{refl, ap}
 use Rattle.model.specs.Calls.{kind_of}
 use Rattle.agent.proofs.Arms.{address_by_lem}
-use borrow.Author.Rules.{rules}
 use Rattle.agent.proofs.address_of.Goals as goal
 
 pub returns-in-SendRequest : goal.returns-in-SendRequest

@@ -2,8 +2,6 @@
 use mathlib.Core.Path.{sym, ◌∙◌}
 use mathlib.Core.Bool.{true, false}
 use Rattle.agent.proofs.Fresh.{refused_settings, fresh_agent_lem}
-use Rattle.agent.proofs.Ready.{fails, passes}
-use borrow.Author.Rules.{rules}
 use Rattle.agent.proofs.build.Goals as goal
 
 pub returns-then-not-within_limits : goal.returns-then-not-within_limits

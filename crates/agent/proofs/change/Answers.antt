@@ -2,7 +2,6 @@
 use Rattle.agent.proofs.Table.{searchable, found_place}
 use Rattle.agent.proofs.Named.{changes_unfit, changes_none, changes_found}
 use mathlib.Core.Path.{sym, ◌∙◌}
-use borrow.Author.Rules.{rules}
 use Rattle.agent.proofs.change.Goals as goal
 
 pub returns-then-is_unfit : goal.returns-then-is_unfit

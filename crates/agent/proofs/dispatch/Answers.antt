@@ -3,7 +3,6 @@ use mathlib.Core.Path.{refl, sym, ap, ◌∙◌}
 use Rattle.model.specs.Calls.{kind_of}
 use Rattle.agent.proofs.Ready.{ready_says}
 use Rattle.agent.proofs.Arms.{unready_arm, counting_arm, meeting_arm, carrying_arm, looking_arm, turning_arm, receiving_arm, submitting_arm}
-use borrow.Author.Rules.{rules}
 use Rattle.agent.proofs.dispatch.Goals as goal
 
 pub send_request-requires : goal.send_request-requires

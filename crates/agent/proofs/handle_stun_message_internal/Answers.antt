@@ -3,7 +3,6 @@ use native.Mathlib.Omega.{arith}
 use mathlib.Core.Path.{sym, ◌∙◌}
 use Rattle.agent.proofs.Table.{searchable, found_place}
 use Rattle.agent.proofs.Received.{receives_late, receives_bad, receives_none, plain_full, found_full, plain_yes, found_yes, timely}
-use borrow.Author.Rules.{rules}
 use Rattle.agent.proofs.handle_stun_message_internal.Goals as goal
 
 pub returns-then-is_past : goal.returns-then-is_past

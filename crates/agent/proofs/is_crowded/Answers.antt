@@ -1,6 +1,5 @@
 -- `is_crowded` meets its contract. Assumes nothing.
 use Rattle.agent.proofs.Received.{crowded_new}
-use borrow.Author.Rules.{rules}
 use Rattle.agent.proofs.is_crowded.Goals as goal
 
 pub returns : goal.returns

@@ -1,8 +1,7 @@
 -- `is_ready` meets its contract: a law of the test for each return. Assumes nothing.
 use mathlib.Core.Path.{sym, ◌∙◌}
 use native.Mathlib.Omega.{arith}
-use Rattle.agent.proofs.Ready.{short_table, short_store, crowded, late, unlimited, decided, fails, passes}
-use borrow.Author.Rules.{rules}
+use Rattle.agent.proofs.Ready.{short_table, short_store, crowded, late, unlimited, decided}
 use Rattle.agent.proofs.is_ready.Goals as goal
 
 pub returns-then-table : goal.returns-then-table

@@ -1,7 +1,6 @@
 -- `is_validated_peer` meets its contract. Assumes nothing.
 use Rattle.agent.proofs.Calls.{meets_asked}
 use mathlib.Core.Path.{◌∙◌}
-use borrow.Author.Rules.{rules}
 use Rattle.agent.proofs.is_validated_peer.Goals as goal
 
 pub returns-then-known : goal.returns-then-known

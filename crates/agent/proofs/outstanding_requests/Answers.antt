@@ -3,7 +3,6 @@ use Rattle.agent.proofs.Calls.{counts_settled, counts_unsettled, counts_off}
 use Rattle.model.specs.Calls.{unsettled}
 use mathlib.Core.Path.{sym, ◌∙◌}
 use Rattle.agent.proofs.Calls.{counts_unsettled, counts_off}
-use borrow.Author.Rules.{rules}
 use Rattle.agent.proofs.outstanding_requests.Goals as goal
 
 pub returns-in-Count : goal.returns-in-Count

@@ -1,7 +1,6 @@
 -- `peers_after` meets its contract. Assumes nothing.
 use native.Mathlib.Omega.{arith}
 use Rattle.agent.proofs.Received.{room_left, new_count}
-use borrow.Author.Rules.{rules}
 use Rattle.agent.proofs.peers_after.Goals as goal
 
 pub overflow_add-result : goal.overflow_add-result

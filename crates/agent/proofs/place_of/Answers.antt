@@ -1,6 +1,5 @@
 -- `place_of` meets its contract. Assumes nothing.
 use Rattle.agent.proofs.Received.{new_place}
-use borrow.Author.Rules.{rules}
 use Rattle.agent.proofs.place_of.Goals as goal
 
 pub returns : goal.returns

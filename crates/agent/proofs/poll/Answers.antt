@@ -6,7 +6,6 @@ use Rattle.model.specs.Calls.{reports}
 use Rattle.agent.proofs.Ready.{few}
 use Rattle.agent.proofs.Table.{all_within_lem, in_time, timed_out_place, cancelled_place, kept_same}
 use Rattle.agent.proofs.Scans.{scans_late, reports_done, noted_as, noted_none}
-use borrow.Author.Rules.{rules}
 use Rattle.agent.proofs.poll.Goals as goal
 
 pub returns-then-is_late : goal.returns-then-is_late

@@ -4,7 +4,6 @@ use Rattle.agent.proofs.Table.{all_within_lem}
 use Rattle.agent.proofs.Scans.{scans_late, transmits_done, went_out, went_quiet}
 use mathlib.Core.Path.{sym, ◌∙◌}
 use Rattle.model.specs.Calls.{transmits}
-use borrow.Author.Rules.{rules}
 use Rattle.agent.proofs.poll_transmit.Goals as goal
 
 pub returns-then-is_late : goal.returns-then-is_late

@@ -1,7 +1,6 @@
 -- `received_as` meets its contract, by the class. Assumes nothing.
 use mathlib.Core.Path.{sym, ap}
 use Rattle.model.specs.Effects.{received_as}
-use borrow.Author.Rules.{rules}
 use Rattle.agent.proofs.received_as.Goals as goal
 
 pub returns-in-Request : goal.returns-in-Request

@@ -2,7 +2,6 @@
 use Rattle.agent.proofs.Table.{searchable}
 use Rattle.agent.proofs.Named.{looks_found, looks_none}
 use mathlib.Core.Path.{sym, ◌∙◌}
-use borrow.Author.Rules.{rules}
 use Rattle.agent.proofs.request_transaction.Goals as goal
 
 pub find-requires : goal.find-requires

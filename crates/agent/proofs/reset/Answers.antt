@@ -2,7 +2,6 @@
 use Rattle.agent.proofs.Calls.{counts_on, counts_off}
 use Rattle.model.specs.Calls.{anew}
 use mathlib.Core.Path.{refl, ◌∙◌}
-use borrow.Author.Rules.{rules}
 use Rattle.agent.proofs.reset.Goals as goal
 
 pub returns-then-agent : goal.returns-then-agent

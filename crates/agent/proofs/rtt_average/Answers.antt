@@ -2,7 +2,6 @@
 use Rattle.agent.proofs.Calls.{counts_mean, counts_off}
 use Rattle.model.specs.Calls.{mean}
 use mathlib.Core.Path.{◌∙◌}
-use borrow.Author.Rules.{rules}
 use Rattle.agent.proofs.rtt_average.Goals as goal
 
 pub returns-then-agent : goal.returns-then-agent

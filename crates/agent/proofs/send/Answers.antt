@@ -1,7 +1,6 @@
 -- `send` meets its contract, by the message that was read. Assumes nothing.
 use Rattle.agent.proofs.Sends.{sends_bad, sends_request, sends_other}
 use mathlib.Core.Path.{sym, ◌∙◌}
-use borrow.Author.Rules.{rules}
 use Rattle.agent.proofs.send.Goals as goal
 
 pub returns-in_default : goal.returns-in_default

@@ -1,10 +1,9 @@
 -- `send_request` meets its contract. Assumes nothing.
 use native.Mathlib.Omega.{arith}
 use mathlib.Core.Path.{sym, ◌∙◌}
-use Rattle.agent.proofs.Ready.{fails, passes, few}
+use Rattle.agent.proofs.Ready.{few}
 use Rattle.agent.proofs.Table.{searchable}
 use Rattle.agent.proofs.Submits.{submits_late, submits_long, submits_bad, submits_class, submits_busy, submits_full, submits_sent, new_within, fewer, insertable}
-use borrow.Author.Rules.{rules}
 use Rattle.agent.proofs.send_request.Goals as goal
 
 pub returns-then-is_late : goal.returns-then-is_late

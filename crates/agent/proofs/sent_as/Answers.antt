@@ -1,7 +1,6 @@
 -- `sent_as` meets its contract, by the class. Assumes nothing.
 use mathlib.Core.Path.{sym, ap}
 use Rattle.model.specs.Effects.{sent_as}
-use borrow.Author.Rules.{rules}
 use Rattle.agent.proofs.sent_as.Goals as goal
 
 pub returns-in-Indication : goal.returns-in-Indication

@@ -1,7 +1,6 @@
 -- `transmission` meets its contract. Assumes nothing.
 use mathlib.Core.Path.{sym, ◌∙◌}
-use Rattle.agent.proofs.Ready.{fails, passes, ready_says, few, hands_unready, hands_unused, hands_part}
-use borrow.Author.Rules.{rules}
+use Rattle.agent.proofs.Ready.{ready_says, few, hands_unready, hands_unused, hands_part}
 use Rattle.agent.proofs.transmission.Goals as goal
 
 pub returns-then-not-is_ready : goal.returns-then-not-is_ready

@@ -1,7 +1,6 @@
 -- `validated_peer` meets its contract. Assumes nothing.
 use Rattle.agent.proofs.Calls.{meets_known, meets_full, meets_new}
 use mathlib.Core.Path.{◌∙◌}
-use borrow.Author.Rules.{rules}
 use Rattle.agent.proofs.validated_peer.Goals as goal
 
 pub returns-then-known : goal.returns-then-known

@@ -1,6 +1,5 @@
 -- `event_in` meets its contract, by the variants that the arms know. Assumes nothing.
 use mathlib.Core.Path.{sym, ap}
-use borrow.Author.Rules.{rules}
 use Rattle.entry.specs.Entry.{event_in}
 use Rattle.entry.proofs.event_in.Goals as goal
 

@@ -1,14 +1,10 @@
 -- `free_row` meets its contract. The invariant: the rows of the requests read so far are flagged. Assumes nothing.
-use Prim.Native.Nat.{◌-◌, ◌≤◌}
-use mathlib.Core.Path.{◌≡◌, ◌∙◌}
-use native.Mathlib.Omega.{arith}
-use borrow.Author.Rules.{rules}
+use Prim.Native.Nat.{◌≤◌}
+use mathlib.Core.Path.{◌≡◌}
 use lib.ListN.{drop}
 use Rattle.requests.specs.Search.{rows_of}
 use Rattle.records.specs.Live.{live}
-use Rattle.records.proofs.Live.{live_end}
 use Rattle.formed.specs.Flags.{flags}
-use Rattle.formed.proofs.Loaded.{loaded_down, flagged_none, mark_taken, mark_nothing, all_flags, free_flag}
 use Rattle.formed.proofs.free_row.Given as goal
 
 abbrev pub invariant-loop-i : goal.invariant-loop-i

@@ -1,12 +1,6 @@
 -- `lowest` meets its contract. The invariant: the first flag that isn't set is at `row` or behind it. Assumes nothing.
-use Prim.Native.Nat.{◌-◌, ◌≤◌}
-use mathlib.Core.Path.{◌≡◌}
 use mathlib.Core.Bool.{false}
 use native.Mathlib.Omega.{arith}
-use borrow.Author.Rules.{rules}
-use borrow.Author.Tests.{not-true, not-false}
-use lib.ListN.{length, drop}
-use Rattle.formed.specs.Flags.{lowest_from}
 use Rattle.formed.proofs.Flags.{lowest_next, lowest_here, lowest_end}
 use Rattle.formed.proofs.lowest.Goals as goal
 

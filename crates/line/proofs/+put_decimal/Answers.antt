@@ -3,9 +3,7 @@ use mathlib.Core.List.{[], ◌∷◌}
 use Rattle.line.proofs.Digits.{decimal_one, decimal_more}
 use Rattle.line.proofs.Putting.{put_then, put_same}
 use mathlib.Core.Path.{ap, ◌∙◌}
-use borrow.Author.Rules.{rules}
 use native.Mathlib.Omega.{arith}
-use Prim.Native.Nat.{ℕ, ◌<◌}
 use Rattle.line.proofs.+put_decimal.Goals as goal
 
 pub returns-then-n-lt10 : goal.returns-then-n-lt10

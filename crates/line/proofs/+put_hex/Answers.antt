@@ -3,9 +3,7 @@ use mathlib.Core.List.{[], ◌∷◌}
 use Rattle.line.proofs.Digits.{digits_none, digits_more}
 use Rattle.line.proofs.Putting.{put_none, put_then, put_same}
 use mathlib.Core.Path.{ap}
-use borrow.Author.Rules.{rules}
 use native.Mathlib.Omega.{arith}
-use Prim.Native.Nat.{ℕ, ◌<◌}
 use Rattle.line.proofs.+put_hex.Goals as goal
 
 pub returns-then-k-eq0 : goal.returns-then-k-eq0

@@ -1,6 +1,5 @@
 -- `line::digit` meets its contract.
 use Rattle.line.proofs.Digits.{small, letter}
-use borrow.Author.Rules.{rules}
 use Rattle.line.proofs.digit.Goals as goal
 
 pub returns-then-d-lt10 : goal.returns-then-d-lt10

@@ -1,9 +1,7 @@
 -- `line::put_answer` meets its contract: texts one behind the other.
 use mathlib.Core.Path.{sym, ap}
-use borrow.Author.Rules.{rules}
 use Rattle.line.specs.Lines.{answer_text}
 use Rattle.line.proofs.Putting.{put_same, put_then}
-use borrow.Author.Rules.{rules}
 use Rattle.line.proofs.put_answer.Goals as goal
 
 pub returns-in-Refused : goal.returns-in-Refused

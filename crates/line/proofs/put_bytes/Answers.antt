@@ -1,11 +1,10 @@
 -- `line::put_bytes` meets its contract. The loop's invariant: the bytes passed are put.
 use Rattle.line.proofs.Putting.{put_none, put_then, put_same, put_length}
-use Rattle.line.specs.Lines.{Puts}
 use native.Mathlib.Numerals.{add-one}
 use lib.Seq.{take_all, take-suc}
-use lib.ListN.{length, take}
-use mathlib.Core.Path.{◌≡◌, sym, ◌∙◌}
-use Prim.Native.Nat.{◌≤◌, ◌<◌, ◌-◌}
+use lib.ListN.{length}
+use mathlib.Core.Path.{sym, ◌∙◌}
+use Prim.Native.Nat.{◌<◌}
 use borrow.Author.Rules.{rules}
 use native.Mathlib.Omega.{arith}
 use Rattle.line.proofs.put_bytes.Goals as goal

@@ -1,7 +1,6 @@
 -- `line::put_id` meets its contract: texts one behind the other.
 use Rattle.line.proofs.Putting.{put_then}
 use Rattle.line.specs.Lines.{id_text}
-use borrow.Author.Rules.{rules}
 use Rattle.line.proofs.put_id.Goals as goal
 
 pub returns : goal.returns

@@ -1,9 +1,7 @@
 -- `line::put_integrity` meets its contract: texts one behind the other.
 use mathlib.Core.Path.{sym, ap}
-use borrow.Author.Rules.{rules}
 use Rattle.line.specs.Lines.{integrity_text}
 use Rattle.line.proofs.Putting.{put_same}
-use borrow.Author.Rules.{rules}
 use Rattle.line.proofs.put_integrity.Goals as goal
 
 pub returns-in-None : goal.returns-in-None

@@ -1,7 +1,6 @@
 -- `line::put_line` meets its contract: texts one behind the other.
 use Rattle.line.proofs.Putting.{put_then}
 use Rattle.line.specs.Lines.{line_of}
-use borrow.Author.Rules.{rules}
 use Rattle.line.proofs.put_line.Goals as goal
 
 pub returns : goal.returns

@@ -1,6 +1,5 @@
 -- `line::put_named` meets its contract: texts one behind the other.
 use Rattle.line.proofs.Putting.{put_then}
-use borrow.Author.Rules.{rules}
 use Rattle.line.proofs.put_named.Goals as goal
 
 pub returns : goal.returns

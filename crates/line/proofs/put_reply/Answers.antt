@@ -1,6 +1,5 @@
 -- `line::put_reply` meets its contract: texts one behind the other.
 use mathlib.Core.Path.{sym, ap}
-use borrow.Author.Rules.{rules}
 use Rattle.line.specs.Lines.{reply_text}
 use Rattle.line.proofs.Putting.{put_same}
 use Rattle.line.proofs.put_reply.Goals as goal

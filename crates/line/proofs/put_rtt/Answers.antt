@@ -2,7 +2,6 @@
 use Rattle.line.proofs.Putting.{put_same}
 use mathlib.Core.Path.{sym, ap}
 use Rattle.line.specs.Lines.{rtt_text}
-use borrow.Author.Rules.{rules}
 use Rattle.line.proofs.put_rtt.Goals as goal
 
 pub returns-in-Absent : goal.returns-in-Absent

@@ -1,7 +1,6 @@
 -- `line::put_stats` meets its contract: texts one behind the other.
-use Rattle.line.proofs.Putting.{put_within, put_then, put_length}
+use Rattle.line.proofs.Putting.{put_within, put_then}
 use Rattle.line.specs.Lines.{stats_text}
-use borrow.Author.Rules.{rules}
 use Rattle.line.proofs.put_stats.Goals as goal
 
 pub put_field-h-requires : goal.put_field-h-requires

@@ -2,7 +2,6 @@
 use mathlib.Core.Path.{sym}
 use native.Mathlib.Omega.{arith}
 use Rattle.message.proofs.Walks.{step_end, step_past, step_attribute}
-use borrow.Author.Rules.{rules}
 use Rattle.message.proofs.attribute_at.Goals as goal
 
 pub returns-then-s-at : goal.returns-then-s-at

@@ -1,11 +1,7 @@
 -- `message::integrity_of` meets its contract. The loop's invariant: what has been found so far, with the walk from this place on, makes
-use borrow.Author.Rules.{rules}
-use mathlib.Core.Path.{◌≡◌, refl, sym, ◌∙◌}
-use mathlib.Core.Logic.{⊎_elim}
-use Prim.Native.Nat.{ℕ, ◌-◌}
+use mathlib.Core.Path.{refl, sym, ◌∙◌}
 use native.Mathlib.Omega.{arith}
-use lib.ListN.{length, drop}
-use Rattle.message.specs.Attributes.{attributes_from, walk_with, walk_of}
+use Rattle.message.specs.Attributes.{walk_of}
 use Rattle.message.proofs.Walks.{Stepped, walk_end, walk_step, walk_cut}
 use Rattle.message.proofs.integrity_of.Goals as goal
 

@@ -1,13 +1,9 @@
 -- `message::integrity_of` meets its contract. The loop's invariant: what has been found so far, with the walk from this place on, makes
 -- the walk over all. The measure is what is left of the message. Assumes nothing.
-use borrow.Author.Rules.{rules}
-use mathlib.Core.Path.{◌≡◌, refl, sym, ◌∙◌}
-use mathlib.Core.Logic.{⊎_elim}
-use Prim.Native.Nat.{ℕ, ◌-◌}
-use native.Mathlib.Omega.{arith}
+use mathlib.Core.Path.{◌≡◌}
+use Prim.Native.Nat.{◌-◌}
 use lib.ListN.{length, drop}
 use Rattle.message.specs.Attributes.{attributes_from, walk_with, walk_of}
-use Rattle.message.proofs.Walks.{Stepped, walk_end, walk_step, walk_cut}
 use Rattle.message.proofs.integrity_of.Given as goal
 
 abbrev pub invariant-loop-at : goal.invariant-loop-at

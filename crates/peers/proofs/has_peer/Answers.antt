@@ -1,7 +1,7 @@
 -- One peer further, one peer more is known of; all are looked at where there are fewer.
 use Rattle.std.proofs.Common.{◌≡◌, ◌∙◌, ◌<◌, ap, ℕ, take, length, arith}
 use Rattle.peers.specs.Peers.{listed}
-use Rattle.peers.proofs.Scan.{listed_more, least_below, take_least}
+use Rattle.peers.proofs.Scan.{listed_more, take_least}
 use Rattle.peers.proofs.has_peer.Goals as goal
 
 pub loop-i-preserved : goal.loop-i-preserved

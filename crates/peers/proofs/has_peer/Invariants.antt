@@ -1,5 +1,5 @@
 -- What was found says whether the address is among the peers that were passed.
-use Rattle.std.proofs.Common.{◌≡◌, ◌-◌, ◌≤◌, take, length}
+use Rattle.std.proofs.Common.{◌≡◌, ◌-◌, ◌≤◌, take}
 use Rattle.peers.specs.Peers.{listed}
 use Rattle.peers.proofs.has_peer.Given as goal
 

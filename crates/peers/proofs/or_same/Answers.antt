@@ -1,5 +1,4 @@
 -- `or_same` by its test: `search` does not see that a false `found` leaves the other to decide.
-use borrow.Author.Rules.{rules}
 use Rattle.peers.proofs.or_same.Goals as goal
 
 pub returns-else-found : goal.returns-else-found

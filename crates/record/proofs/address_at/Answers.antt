@@ -1,6 +1,5 @@
 -- `record::address_at` meets its contract: each way is one of the laws.
 use Rattle.record.proofs.Bodies.{high_free, low_free, flow_free, is_v4_lem, is_v6_lem, no_family}
-use borrow.Author.Rules.{rules}
 use Rattle.record.proofs.address_at.Goals as goal
 
 pub returns-then-read64-ne0 : goal.returns-then-read64-ne0

@@ -1,7 +1,6 @@
 -- `record::body_of` meets its contract: the kind says which reader it is.
 use Rattle.record.specs.Records.{body_of}
 use Rattle.record.proofs.Bodies.{by_kind, no_kind}
-use borrow.Author.Rules.{rules}
 use native.Mathlib.Omega.{arith}
 use Rattle.record.proofs.body_of.Goals as goal
 

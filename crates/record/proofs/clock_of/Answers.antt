@@ -1,6 +1,5 @@
 -- `record::clock_of` meets its contract: each way is one of the laws.
 use Rattle.record.proofs.Bodies.{clock_long, clock_transmit, clock_poll}
-use borrow.Author.Rules.{rules}
 use Rattle.record.proofs.clock_of.Goals as goal
 
 pub returns-then-s-ne8 : goal.returns-then-s-ne8

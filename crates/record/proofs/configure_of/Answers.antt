@@ -1,6 +1,5 @@
 -- `record::configure_of` meets its contract: each way is one of the laws.
 use Rattle.record.proofs.Bodies.{configure_long, configure_good}
-use borrow.Author.Rules.{rules}
 use Rattle.record.proofs.configure_of.Goals as goal
 
 pub returns-then-s-ne40 : goal.returns-then-s-ne40

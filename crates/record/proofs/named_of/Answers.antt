@@ -1,6 +1,5 @@
 -- `record::named_of` meets its contract: each way is one of the laws.
 use Rattle.record.proofs.Bodies.{named_long, named_silent, named_cancel, named_query}
-use borrow.Author.Rules.{rules}
 use Rattle.record.proofs.named_of.Goals as goal
 
 pub returns-then-s-ne12 : goal.returns-then-s-ne12

@@ -1,6 +1,5 @@
 -- `record::peer_of` meets its contract: each way is one of the laws.
 use Rattle.record.proofs.Bodies.{peer_long, peer_nowhere, peer_asked, peer_validated}
-use borrow.Author.Rules.{rules}
 use Rattle.record.proofs.peer_of.Goals as goal
 
 pub returns-then-s-ne27 : goal.returns-then-s-ne27

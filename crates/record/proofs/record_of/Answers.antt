@@ -2,7 +2,6 @@
 use Prim.Native.Nat.{◌+◌, ◌-◌}
 use native.Mathlib.Omega.{arith}
 use Rattle.record.proofs.Frames.{few, no_mark, too_long, cut, no_body, fresh, whole}
-use borrow.Author.Rules.{rules}
 use Rattle.record.proofs.record_of.Goals as goal
 
 pub returns-then-rest-lt5 : goal.returns-then-rest-lt5

@@ -1,6 +1,5 @@
 -- `record::rto_at` meets its contract: each way is one of the laws.
 use Rattle.record.proofs.Bodies.{rto_is}
-use borrow.Author.Rules.{rules}
 use Rattle.record.proofs.rto_at.Goals as goal
 
 pub returns : goal.returns

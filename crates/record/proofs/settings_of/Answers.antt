@@ -1,6 +1,5 @@
 -- `record::settings_of` meets its contract: each way is one of the laws.
 use Rattle.record.proofs.Bodies.{settings_long, settings_tcp, settings_counts, settings_good}
-use borrow.Author.Rules.{rules}
 use Rattle.record.proofs.settings_of.Goals as goal
 
 pub returns-then-s-ne30 : goal.returns-then-s-ne30

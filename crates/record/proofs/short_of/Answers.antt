@@ -1,7 +1,6 @@
 -- `record::short_of` meets its contract.
 use native.Mathlib.Omega.{arith}
 use Rattle.record.proofs.Frames.{short_head, short_body}
-use borrow.Author.Rules.{rules}
 use Rattle.record.proofs.short_of.Goals as goal
 
 pub returns-then-rest-lt5 : goal.returns-then-rest-lt5

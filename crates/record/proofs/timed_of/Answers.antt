@@ -1,6 +1,5 @@
 -- `record::timed_of` meets its contract: each way is one of the laws.
 use Rattle.record.proofs.Bodies.{timed_short, timed_nowhere, timed_request, timed_received}
-use borrow.Author.Rules.{rules}
 use Rattle.record.proofs.timed_of.Goals as goal
 
 pub returns-then-s-lt35 : goal.returns-then-s-lt35

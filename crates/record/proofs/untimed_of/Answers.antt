@@ -1,6 +1,5 @@
 -- `record::untimed_of` meets its contract: each way is one of the laws.
 use Rattle.record.proofs.Bodies.{untimed_short, untimed_nowhere, untimed_send, untimed_received}
-use borrow.Author.Rules.{rules}
 use Rattle.record.proofs.untimed_of.Goals as goal
 
 pub returns-then-s-lt27 : goal.returns-then-s-lt27

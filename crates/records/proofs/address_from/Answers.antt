@@ -1,5 +1,4 @@
 -- `records::address_from` meets its contract: each word of the address is read at its place. Assumes nothing.
-use borrow.Author.Rules.{rules}
 use Rattle.records.proofs.address_from.Goals as goal
 
 pub returns : goal.returns

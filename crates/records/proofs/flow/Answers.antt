@@ -1,7 +1,6 @@
 -- `records::flow` meets its contract, by the kind of host. Assumes nothing.
 use native.Mathlib.Omega.{arith}
 use Rattle.records.proofs.Coding.{flow_v4, flow_v6}
-use borrow.Author.Rules.{rules}
 use Rattle.records.proofs.flow.Goals as goal
 
 pub returns-in-V4 : goal.returns-in-V4

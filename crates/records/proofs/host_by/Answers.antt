@@ -1,6 +1,5 @@
 -- `records::host_by` meets its contract, by its test. Assumes nothing.
 use borrow.Author.Tests.{eq-eqb, ne_eqb}
-use borrow.Author.Rules.{rules}
 use Rattle.records.proofs.host_by.Goals as goal
 
 pub returns-then-kind-eq4 : goal.returns-then-kind-eq4

@@ -1,7 +1,6 @@
 -- `records::id_at` meets its contract: the identifier of a row is that of its request. Assumes nothing.
 use mathlib.Core.Path.{◌∙◌}
 use Rattle.records.proofs.Coding.{id_row}
-use borrow.Author.Rules.{rules}
 use Rattle.records.proofs.id_at.Goals as goal
 
 pub returns : goal.returns

@@ -1,7 +1,6 @@
 -- `records::lo` meets its contract, by the kind of host. Assumes nothing.
 use native.Mathlib.Omega.{arith}
 use Rattle.records.proofs.Coding.{lo_v4, lo_v6}
-use borrow.Author.Rules.{rules}
 use Rattle.records.proofs.lo.Goals as goal
 
 pub returns-in-V4 : goal.returns-in-V4

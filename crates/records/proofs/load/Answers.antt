@@ -3,7 +3,6 @@ use mathlib.Core.Path.{◌∙◌}
 use Prim.Native.Nat.{◌*◌}
 use Rattle.records.specs.Coding.{width, words_from}
 use Rattle.records.proofs.Coding.{decode_row, loaded}
-use borrow.Author.Rules.{rules}
 use Rattle.records.proofs.load.Goals as goal
 
 pub returns : goal.returns

@@ -6,7 +6,6 @@ use Rattle.rows.specs.Rows.{put_at}
 use Rattle.rows.proofs.Rows.{put_more}
 use Rattle.records.specs.Coding.{width}
 use Rattle.records.proofs.Coding.{decode_encode, written}
-use borrow.Author.Rules.{rules}
 use Rattle.records.proofs.put.Goals as goal
 
 pub put6-requires-3 : goal.put6-requires-3

@@ -2,7 +2,6 @@
 use native.Mathlib.Omega.{arith}
 use lib.ListN.{length-set}
 use Rattle.records.proofs.Coding.{six_put}
-use borrow.Author.Rules.{rules}
 use Rattle.records.proofs.put6.Goals as goal
 
 pub bounds-t-b-2 : goal.bounds-t-b-2

@@ -1,7 +1,6 @@
 -- `records::scope` meets its contract, by the kind of host. Assumes nothing.
 use native.Mathlib.Omega.{arith}
 use Rattle.records.proofs.Coding.{scope_v4, scope_v6}
-use borrow.Author.Rules.{rules}
 use Rattle.records.proofs.scope.Goals as goal
 
 pub returns-in-V4 : goal.returns-in-V4

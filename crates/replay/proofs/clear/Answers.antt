@@ -1,10 +1,7 @@
 -- `replay::clear` meets its contract. The loop's invariant: zeros stand from the place to i, and what stood before it.
-use lib.ListN.{length, take, replicate, length-set}
-use Prim.Native.Nat.{◌≤◌, ◌-◌}
-use mathlib.Core.List.{◌++◌}
-use mathlib.Core.Path.{◌≡◌, refl, ◌∙◌}
+use lib.ListN.{length-set}
+use mathlib.Core.Path.{refl, ◌∙◌}
 use Rattle.replay.proofs.Fits.{clear_none, clear_more, clear_all}
-use borrow.Author.Rules.{rules}
 use native.Mathlib.Omega.{arith}
 use Rattle.replay.proofs.clear.Goals as goal
 

@@ -1,15 +1,9 @@
 -- `replay::lines` meets its contract. The loop's invariant: the lines put so far, with those of what is left, are all that fit.
-use Prim.Native.Nat.{◌+◌, ◌-◌, ◌≤◌, ◌<◌}
-use mathlib.Core.Path.{◌≡◌, refl, ◌∙◌}
-use native.Mathlib.Omega.{arith}
+use Prim.Native.Nat.{◌-◌}
+use mathlib.Core.Path.{◌≡◌}
 use lib.ListN.{length}
-use borrow.Author.Rules.{rules}
-use borrow.Author.Tests.{not-true, not-false}
-use Rattle.line.proofs.Putting.{put_length}
-use Rattle.records.specs.Coding.{size}
 use Rattle.replay.specs.Lent.{stand_of}
-use Rattle.replay.proofs.Turns.{begun, as_model}
-use Rattle.replay.proofs.Fits.{Stands, starts, ended, stopped, finished, goes_on, nearer}
+use Rattle.replay.proofs.Fits.{Stands}
 use Rattle.replay.proofs.lines.Given as goal
 
 abbrev pub invariant-loop-at : goal.invariant-loop-at

@@ -3,7 +3,6 @@ use mathlib.Core.Path.{sym, ◌∙◌}
 use native.Mathlib.Omega.{arith}
 use Rattle.record.proofs.Frames.{whole_lies}
 use Rattle.replay.proofs.Turns.{broken, off, played, kept, renews}
-use borrow.Author.Rules.{rules}
 use Rattle.replay.proofs.next_turn.Goals as goal
 
 pub slice_bounds-step-count : goal.slice_bounds-step-count

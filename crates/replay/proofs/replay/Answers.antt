@@ -1,7 +1,6 @@
 -- `replay::replay` meets its contract: the lines, and then zeros.
 use Rattle.replay.proofs.Turns.{cleared}
 use Rattle.replay.proofs.Fits.{replayed}
-use borrow.Author.Rules.{rules}
 use Rattle.replay.proofs.replay.Goals as goal
 
 pub lines-end-requires : goal.lines-end-requires

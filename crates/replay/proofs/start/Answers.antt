@@ -1,6 +1,5 @@
 -- `replay::start` meets its contract.
 use Rattle.replay.proofs.Turns.{begins}
-use borrow.Author.Rules.{rules}
 use Rattle.replay.proofs.start.Goals as goal
 
 pub returns : goal.returns

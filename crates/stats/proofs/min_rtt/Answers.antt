@@ -1,5 +1,4 @@
 -- `stats::min_rtt` meets its contract, by the variants that the arms know. Assumes nothing.
-use borrow.Author.Rules.{rules}
 use Rattle.stats.proofs.min_rtt.Goals as goal
 
 pub returns-in-Absent : goal.returns-in-Absent

@@ -2,7 +2,6 @@
 -- Assumes nothing.
 use native.Mathlib.Omega.{arith}
 use Rattle.store.proofs.Copies.{no_row, too_long, too_short, in_row, copy_none, copy_some}
-use borrow.Author.Rules.{rules}
 use Rattle.store.proofs.copy.Goals as goal
 
 pub returns-then-row-ge-ROWS : goal.returns-then-row-ge-ROWS

@@ -1,10 +1,9 @@
 -- `store::copy_over` meets its contract. The loop's invariant: the bytes passed stand at the start, and behind them what stood there.
 use borrow.Author.Rules.{rules}
-use mathlib.Core.Path.{◌≡◌, refl, ◌∙◌}
-use mathlib.Core.List.{◌++◌}
-use Prim.Native.Nat.{◌≤◌, ◌<◌, ◌-◌}
+use mathlib.Core.Path.{refl, ◌∙◌}
+use Prim.Native.Nat.{◌<◌}
 use native.Mathlib.Omega.{arith}
-use lib.ListN.{length, take, drop, length-set}
+use lib.ListN.{length, length-set}
 use Rattle.store.proofs.Copies.{copy_more, copy_all}
 use Rattle.store.proofs.copy_over.Goals as goal
 

@@ -1,12 +1,9 @@
 -- `store::copy_over` meets its contract. The loop's invariant: the bytes passed stand at the start, and behind them what stood there.
 -- The measure is what is left of them. Assumes nothing.
-use borrow.Author.Rules.{rules}
-use mathlib.Core.Path.{◌≡◌, refl, ◌∙◌}
+use mathlib.Core.Path.{◌≡◌}
 use mathlib.Core.List.{◌++◌}
-use Prim.Native.Nat.{◌≤◌, ◌<◌, ◌-◌}
-use native.Mathlib.Omega.{arith}
-use lib.ListN.{length, take, drop, length-set}
-use Rattle.store.proofs.Copies.{copy_more, copy_all}
+use Prim.Native.Nat.{◌≤◌, ◌-◌}
+use lib.ListN.{length, take, drop}
 use Rattle.store.proofs.copy_over.Given as goal
 
 abbrev pub invariant-loop-i : goal.invariant-loop-i

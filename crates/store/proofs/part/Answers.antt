@@ -3,7 +3,6 @@ use Prim.Native.Nat.{◌*◌}
 use native.Mathlib.Nat.{add-sub_cancel_left}
 use native.Mathlib.Omega.{arith}
 use Rattle.store.proofs.Copies.{no_row, too_long, too_short, in_row, part_none, part_some}
-use borrow.Author.Rules.{rules}
 use Rattle.store.proofs.part.Goals as goal
 
 pub returns-then-row-ge-ROWS : goal.returns-then-row-ge-ROWS

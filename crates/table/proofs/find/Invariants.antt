@@ -1,18 +1,11 @@
 -- `table::find` meets its contract. The invariant: looking a key up in all requests is looking it up in the rest, counted from i.
 -- Assumes nothing.
-use borrow.Author.Rules.{rules}
-use native.Mathlib.Omega.{arith}
 use Prim.Native.Nat.{◌-◌, ◌≤◌}
-use mathlib.Core.Path.{◌≡◌, sym, ap, ◌∙◌}
+use mathlib.Core.Path.{◌≡◌}
 use lib.ListN.{drop}
 use Rattle.message.specs.Head.{key}
-use Rattle.message.specs.declared.TransactionId.{TransactionId}
 use Rattle.records.specs.Live.{live}
-use Rattle.records.proofs.Live.{live_next, live_end}
-use lib.Dec.{eqb}
 use Rattle.requests.specs.Search.{lookup, lookup_from}
-use Rattle.requests.specs.declared.Found.TheVariants.{At}
-use Rattle.table.proofs.Turns.{lookup_past, lookup_here, lookup_ended}
 use Rattle.table.proofs.find.Given as goal
 
 abbrev pub invariant-loop-i : goal.invariant-loop-i

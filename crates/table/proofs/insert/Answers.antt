@@ -1,10 +1,9 @@
 -- `table::insert` meets its contract. The loop opens a gap of one row, word by word from the top; `put` fills it.
-use borrow.Author.Rules.{rules}
 use native.Mathlib.Omega.{arith}
-use Prim.Native.Nat.{ℕ, ◌*◌, ◌≤◌}
+use Prim.Native.Nat.{ℕ, ◌*◌}
 use mathlib.Core.Path.{◌≡◌, refl, ap, ◌∙◌}
 use mathlib.Core.List.{List}
-use lib.ListN.{length, length-set}
+use lib.ListN.{length-set}
 use Rattle.rows.specs.Rows.{put_at}
 use Rattle.rows.proofs.Shifts.{opened, opened_none, open_turn, open_filled}
 use Rattle.records.specs.Coding.{width, encode}

@@ -1,15 +1,11 @@
 -- `table::place` meets its contract. The invariant: the place in all requests is the place in the rest, counted from i.
-use borrow.Author.Rules.{rules}
 use native.Mathlib.Omega.{arith}
-use Prim.Native.Nat.{◌-◌, ◌≤◌}
-use mathlib.Core.Path.{◌≡◌, sym, ap, ◌∙◌}
-use lib.ListN.{drop}
+use mathlib.Core.Path.{sym, ap, ◌∙◌}
 use Rattle.message.specs.Head.{key}
 use Rattle.message.specs.declared.TransactionId.{TransactionId}
 use Rattle.records.specs.Live.{live}
 use Rattle.records.proofs.Live.{live_next, live_end}
 use lib.Dec.{ltb}
-use Rattle.requests.specs.Search.{place_of, place_from}
 use Rattle.table.proofs.Turns.{place_past, place_here, place_ended}
 use Rattle.table.proofs.place.Goals as goal
 

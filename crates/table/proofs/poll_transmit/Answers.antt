@@ -1,9 +1,7 @@
 -- `table::poll_transmit` meets its contract: `Stands` holds at the head of each turn, and each way through one is a law.
-use borrow.Author.Rules.{rules}
-use Prim.Native.Nat.{ℕ, ◌+◌, ◌-◌}
+use Prim.Native.Nat.{ℕ, ◌+◌}
 use mathlib.Core.Path.{sym, ap, subst, ◌∙◌}
 use mathlib.Core.List.{List}
-use mathlib.Core.Logic.{⊎_elim}
 use Rattle.request.specs.Request.{transmit_of}
 use Rattle.table.proofs.Scans.{Stands, begun, here, rested, passed, went, ended}
 use Rattle.table.proofs.poll_transmit.Goals as goal
@@ -25,8 +23,8 @@ loop-i-preserved c =
     let I : List ℕ → Type 0 = λ x. Stands a.transport a.n a.clock a.t.now x (l.i + 1) in
     let f = ap (transmit_of a.transport a.clock) (sym c.load-q.ensures) ∙ sym c.poll_transmit.ensures in
     elim c.match-poll_transmit.branch [
-      in-Passes w ↦ subst I (sym w.t-is) (passed a.transport a.n a.clock a.t.now l.t l.i l.invariant c.if-n-i.false c.requires.0 c.requires.1 _ _ w.put-in-Passes.ensures (f ∙ w.in-Passes.is))
-    | in-Rests w ↦ subst I (sym w.t-is) (rested a.transport a.n a.clock a.t.now l.t l.i l.invariant c.if-n-i.false (f ∙ w.in-Rests.is))
+      | in-Passes w ↦ subst I (sym w.t-is) (passed a.transport a.n a.clock a.t.now l.t l.i l.invariant c.if-n-i.false c.requires.0 c.requires.1 _ _ w.put-in-Passes.ensures (f ∙ w.in-Passes.is))
+      | in-Rests w ↦ subst I (sym w.t-is) (rested a.transport a.n a.clock a.t.now l.t l.i l.invariant c.if-n-i.false (f ∙ w.in-Rests.is))
     ]
 
 pub returns-then-n-i : goal.returns-then-n-i

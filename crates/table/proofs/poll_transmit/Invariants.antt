@@ -1,12 +1,7 @@
 -- `table::poll_transmit` meets its contract: `Stands` holds at the head of each turn, and each way through one is a law.
 -- Assumes nothing.
-use borrow.Author.Rules.{rules}
-use Prim.Native.Nat.{ℕ, ◌+◌, ◌-◌}
-use mathlib.Core.Path.{sym, ap, subst, ◌∙◌}
-use mathlib.Core.List.{List}
-use mathlib.Core.Logic.{⊎_elim}
-use Rattle.request.specs.Request.{transmit_of}
-use Rattle.table.proofs.Scans.{Stands, begun, here, rested, passed, went, ended}
+use Prim.Native.Nat.{◌-◌}
+use Rattle.table.proofs.Scans.{Stands}
 use Rattle.table.proofs.poll_transmit.Given as goal
 
 abbrev pub invariant-loop-i : goal.invariant-loop-i

@@ -1,9 +1,8 @@
 -- `table::remove` meets its contract. The loop closes the gap of one row, word by word from below.
-use borrow.Author.Rules.{rules}
 use native.Mathlib.Omega.{arith}
-use Prim.Native.Nat.{◌*◌, ◌-◌, ◌≤◌}
+use Prim.Native.Nat.{◌*◌, ◌-◌}
 use mathlib.Core.Path.{◌≡◌, refl, ap, ◌∙◌}
-use lib.ListN.{length, length-set}
+use lib.ListN.{length-set}
 use Rattle.rows.proofs.Shifts.{closed, closed_none, close_turn, close_ended}
 use Rattle.records.specs.Coding.{width}
 use Rattle.records.proofs.Live.{became_remove}

@@ -2,7 +2,6 @@
 -- Assumes nothing.
 use native.Mathlib.Omega.{arith}
 use Rattle.records.proofs.Live.{became_set}
-use borrow.Author.Rules.{rules}
 use Rattle.table.proofs.replace.Goals as goal
 
 pub returns : goal.returns

@@ -1,10 +1,7 @@
 -- `waits::sum_waits` meets its contract. The loop's invariant: the sum so far is the capped sum of the waits passed. Assumes nothing.
-use borrow.Author.Rules.{rules}
 use mathlib.Core.Path.{◌≡◌}
 use Prim.Native.Nat.{◌+◌, ◌-◌, ◌^◌, ◌≤◌, min}
-use native.Mathlib.Omega.{arith}
 use Rattle.waits.specs.Waits.{sum_of}
-use Rattle.waits.proofs.Doubling.{sum_none, sum_more}
 use Rattle.waits.proofs.sum_waits.Given as goal
 
 abbrev pub invariant-loop-i : goal.invariant-loop-i

@@ -1,7 +1,6 @@
 -- `Clock::is_past` meets its contract. Assumes nothing.
 use mathlib.Core.Path.{sym, ap, ◌∙◌}
 use Rattle.agent.specs.Called.{is_past}
-use borrow.Author.Rules.{rules}
 use Rattle.agent.proofs.Clock.is_past.Goals as goal
 
 pub returns-in-At : goal.returns-in-At

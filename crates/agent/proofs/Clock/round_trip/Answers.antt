@@ -3,7 +3,6 @@ use mathlib.Core.Path.{sym, ap, ◌∙◌}
 use Rattle.agent.specs.Called.{rtt_by}
 use Rattle.agent.specs.declared.Clock.{Clock}
 use Rattle.agent.proofs.Received.{timely_at}
-use borrow.Author.Rules.{rules}
 use Rattle.agent.proofs.Clock.round_trip.Goals as goal
 
 pub round_trip-requires : goal.round_trip-requires

@@ -2,7 +2,6 @@
 use mathlib.Core.Path.{sym, ap, ◌∙◌}
 use Rattle.agent.specs.Called.{altered}
 use Rattle.agent.specs.declared.Wish.{Wish}
-use borrow.Author.Rules.{rules}
 use Rattle.agent.proofs.Wish.alter.Goals as goal
 
 pub returns-in-Silence : goal.returns-in-Silence

@@ -2,7 +2,6 @@
 use mathlib.Core.Path.{sym, ap, ◌∙◌}
 use mathlib.Core.Bool.{not}
 use Rattle.agent.specs.Called.{is_unfit}
-use borrow.Author.Rules.{rules}
 use Rattle.agent.proofs.Wish.is_unfit.Goals as goal
 
 pub returns-in-Configure : goal.returns-in-Configure

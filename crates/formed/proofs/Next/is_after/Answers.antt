@@ -1,6 +1,5 @@
 -- `Next::is_after` meets its contract, by its variants. Assumes nothing.
 use mathlib.Core.Path.{◌∙◌}
-use borrow.Author.Rules.{rules}
 use Rattle.formed.proofs.Formed.{after_id}
 use Rattle.formed.proofs.Next.is_after.Goals as goal
 

@@ -1,7 +1,6 @@
 -- `Message::from_bytes` meets its contract: what the two callees answered, taken apart, says which case of `message_of` holds.
 -- Assumes nothing.
 use Rattle.message.proofs.Messages.{bad_head, cut_off, whole}
-use borrow.Author.Rules.{rules}
 use Rattle.message.proofs.Message.from_bytes.Goals as goal
 
 pub returns-in_default : goal.returns-in_default

@@ -4,7 +4,6 @@ use mathlib.Core.Path.{sym}
 use native.Mathlib.Omega.{arith}
 use Rattle.message.specs.Head.{read_head}
 use Rattle.message.proofs.Heads.{short, top_bits, no_cookie, uneven, other_length, good}
-use borrow.Author.Rules.{rules}
 use Rattle.message.proofs.MessageHeader.from_bytes.Goals as goal
 
 pub returns-then-s-lt20 : goal.returns-then-s-lt20

@@ -1,5 +1,4 @@
 -- `TransactionId::from_bytes` meets its contract: each word is what its reader promises. Assumes nothing.
-use borrow.Author.Rules.{rules}
 use Rattle.message.specs.Head.{id_at}
 use Rattle.message.proofs.TransactionId.from_bytes.Goals as goal
 

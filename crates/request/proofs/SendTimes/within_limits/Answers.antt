@@ -1,7 +1,6 @@
 -- `SendTimes::within_limits` meets its contract: a law of the test for each return. Assumes nothing.
 use native.Mathlib.Omega.{arith}
 use Rattle.request.proofs.Limits.{times_late, times_order}
-use borrow.Author.Rules.{rules}
 use Rattle.request.proofs.SendTimes.within_limits.Goals as goal
 
 pub returns-then-last-mark : goal.returns-then-last-mark

@@ -3,7 +3,6 @@ use mathlib.Core.Path.{ap}
 use Prim.Native.Nat.{ℕ}
 use lib.Dec.{leb}
 use Rattle.request.specs.Times.{passed_all}
-use borrow.Author.Rules.{rules}
 use Rattle.request.proofs.StunRequestState.all_passed.Goals as goal
 
 pub returns : goal.returns

@@ -5,7 +5,6 @@ use native.Mathlib.Omega.{arith}
 use Rattle.waits.proofs.Limits.{final_most, wait_most}
 use Rattle.request.proofs.Limits.{last_most, steps_left}
 use Rattle.request.proofs.Next.{next_never, next_end, next_ended, next_due}
-use borrow.Author.Rules.{rules}
 use Rattle.request.proofs.StunRequestState.next_send_time.Goals as goal
 
 pub returns-in_default : goal.returns-in_default

@@ -2,7 +2,6 @@
 use mathlib.Core.Path.{sym, ◌∙◌}
 use native.Mathlib.Omega.{arith}
 use Rattle.request.proofs.Next.{over, not_over, moment, poll_cancelled, poll_over, poll_silenced, poll_waits, poll_late}
-use borrow.Author.Rules.{rules}
 use Rattle.request.proofs.StunRequestState.poll.Goals as goal
 
 pub returns-then-self : goal.returns-then-self

@@ -2,7 +2,6 @@
 use mathlib.Core.Path.{sym, ◌∙◌}
 use native.Mathlib.Omega.{arith}
 use Rattle.request.proofs.Next.{over, not_over, moment, due, not_due, over_not_due, transmit_cancelled, transmit_rests, transmit_passes, transmit_goes}
-use borrow.Author.Rules.{rules}
 use Rattle.request.proofs.StunRequestState.poll_transmit.Goals as goal
 
 pub returns-then-self : goal.returns-then-self

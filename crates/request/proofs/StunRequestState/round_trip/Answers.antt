@@ -2,7 +2,6 @@
 use native.Mathlib.Omega.{arith}
 use Rattle.request.proofs.Limits.{last_most}
 use Rattle.request.proofs.Next.{rtt_never, rtt_counted, rtt_not}
-use borrow.Author.Rules.{rules}
 use Rattle.request.proofs.StunRequestState.round_trip.Goals as goal
 
 pub returns-in_default : goal.returns-in_default

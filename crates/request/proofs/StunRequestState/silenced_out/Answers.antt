@@ -1,5 +1,4 @@
 -- `StunRequestState::silenced_out` meets its contract, by whether retransmissions were cancelled. Assumes nothing.
-use borrow.Author.Rules.{rules}
 use Rattle.request.proofs.StunRequestState.silenced_out.Goals as goal
 
 pub returns-then-self : goal.returns-then-self

@@ -1,7 +1,6 @@
 -- `StunRequestState::stepped` meets its contract, by whether the request was sent. Assumes nothing.
 use mathlib.Core.Path.{◌∙◌}
 use Rattle.request.proofs.Steps.{step_first, step_again}
-use borrow.Author.Rules.{rules}
 use Rattle.request.proofs.StunRequestState.stepped.Goals as goal
 
 pub returns-in-Never : goal.returns-in-Never

@@ -5,7 +5,6 @@ use Rattle.request.specs.Limits.{RequestLimits}
 use Rattle.request.specs.declared.StunRequestState.{StunRequestState}
 use Rattle.request.proofs.Kept.{never_rests, never_passes, goes_submitted}
 use Rattle.request.proofs.Limits.{new_limits}
-use borrow.Author.Rules.{rules}
 use Rattle.request.proofs.StunRequestState.submitted.Goals as goal
 
 pub poll_transmit-first-requires : goal.poll_transmit-first-requires

@@ -1,9 +1,7 @@
 -- `StunRequestState::within_limits` meets its contract: a law of the test for each return. Assumes nothing.
 use mathlib.Core.Path.{sym, ◌∙◌}
 use native.Mathlib.Omega.{arith}
-use borrow.Author.Tests.{not-true, not-false}
 use Rattle.request.proofs.Limits.{too_short, too_long, no_row, too_many, bad_settings_lem, times_decide}
-use borrow.Author.Rules.{rules}
 use Rattle.request.proofs.StunRequestState.within_limits.Goals as goal
 
 pub returns-then-self-lt20 : goal.returns-then-self-lt20

@@ -5,7 +5,6 @@ use Rattle.stats.specs.declared.Rtt.TheVariants.{Absent}
 use Rattle.stats.specs.declared.Event.TheVariants.{ResponseReceived}
 use Rattle.stats.proofs.Arms.{of_event, response}
 use Rattle.stats.proofs.Fields.{nothing, reset}
-use borrow.Author.Rules.{rules}
 use Rattle.stats.proofs.StunAgentStats.after.Goals as goal
 
 pub returns-in-Nothing : goal.returns-in-Nothing

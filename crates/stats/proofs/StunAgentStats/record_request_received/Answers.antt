@@ -1,5 +1,4 @@
 -- `StunAgentStats::record_request_received` meets its contract: what each call ensures, by congruence. Assumes nothing.
-use borrow.Author.Rules.{rules}
 use Rattle.stats.specs.Count.{counted}
 use Rattle.stats.proofs.StunAgentStats.record_request_received.Goals as goal
 

@@ -1,7 +1,6 @@
 -- `StunAgentStats::record_rtt_if_any` meets its contract, by the variants that the arms know. Assumes nothing.
 use mathlib.Core.Path.{refl}
 use Rattle.stats.proofs.Arms.{of_sample}
-use borrow.Author.Rules.{rules}
 use Rattle.stats.proofs.StunAgentStats.record_rtt_if_any.Goals as goal
 
 pub returns-in-Absent : goal.returns-in-Absent

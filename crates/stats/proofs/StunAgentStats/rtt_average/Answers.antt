@@ -1,6 +1,5 @@
 -- `StunAgentStats::rtt_average` meets its contract, by whether there are samples. Assumes nothing.
 use Rattle.stats.proofs.Query.{average_none, average_some}
-use borrow.Author.Rules.{rules}
 use Rattle.stats.proofs.StunAgentStats.rtt_average.Goals as goal
 
 pub returns-then-count-eq0 : goal.returns-then-count-eq0

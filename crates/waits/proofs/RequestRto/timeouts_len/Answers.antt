@@ -1,5 +1,4 @@
 -- `RequestRto::timeouts_len` meets its contract, by the transport. Assumes nothing.
-use borrow.Author.Rules.{rules}
 use Rattle.waits.proofs.RequestRto.timeouts_len.Goals as goal
 
 pub returns-in-Udp : goal.returns-in-Udp

@@ -42,15 +42,21 @@ def port_library():
         sys.exit(f"{done.stdout[-2000:]}\ntools/build library failed")
 
 
-def run_program(words, trace, seconds=60):
-    """The lines of a program that takes a trace on standard input; None where it fails or takes too long."""
+def output_of(words, trace, seconds=60):
+    """The bytes that a program prints, which takes a trace on standard input; None where it fails or takes too long."""
     try:
         done = subprocess.run(words, input=trace, stdout=subprocess.PIPE, timeout=seconds)
     except subprocess.TimeoutExpired:
         return None
     except OSError as error:
         sys.exit(f"{words[0]} can't be started: {error.strerror}")
-    return done.stdout.decode(errors="replace") if done.returncode == 0 else None
+    return done.stdout if done.returncode == 0 else None
+
+
+def run_program(words, trace, seconds=60):
+    """The lines of a program that takes a trace on standard input; None where it fails or takes too long."""
+    lines = output_of(words, trace, seconds)
+    return None if lines is None else lines.decode(errors="replace")
 
 
 def replayed(file):

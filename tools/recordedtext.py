@@ -8,6 +8,7 @@
 reading decided. Everything behind a # is a comment to tools/trace, so a case's records are a trace.
 """
 import collections
+import sys
 
 import tracetext
 
@@ -24,6 +25,15 @@ def show(case):
 def read(text):
     """The cases in a text; raises ValueError at one that isn't whole."""
     return [case_of(block) for block in text.split("\n== ")] if text else []
+
+
+def all_cases(folder):
+    """The cases of all files in a folder; ends the command where there is none or a name is used twice."""
+    found = [case for file in sorted(folder.glob("*.txt")) for case in read(file.read_text())]
+    twice = [name for name, count in collections.Counter(case.name for case in found).items() if count > 1]
+    if not found or twice:
+        sys.exit(f"recorded answers: names used twice: {twice}" if twice else "no recorded answers")
+    return found
 
 
 def case_of(block):

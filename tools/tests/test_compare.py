@@ -1,4 +1,4 @@
-"""Tests of tools/compare and tools/recorded: a program with a fault is found, and an empty run can't look good."""
+"""Tests of tools/compare, tools/recorded and tools/streamed: a program with a fault is found, and an empty run can't look good."""
 import pathlib
 import subprocess
 import sys
@@ -50,6 +50,22 @@ class Programs(unittest.TestCase):
         self.assertEqual(code, 1)
         self.assertIn("DIFFERENCE in silenced-timed-out", text)
         self.assertEqual(run("recorded", "false")[0], 1)
+
+    def differs(self, filter, *words):
+        """Which traces of tools/streamed differ on the second reading behind a filter."""
+        code, text = run("streamed", *words, "sh", "-c", f'cat "$@" 2>/dev/null | {filter} | "$0"', self.reading)
+        self.assertEqual(code, 1)  # the broken trace differs in any case: nobody says that it can't be read
+        rows = [row for row in text.splitlines() if row.startswith("DIFFERENCE")]
+        return [any(row.startswith(f"DIFFERENCE, the {name} trace, ") for row in rows) for name in ("long", "slow")]
+
+    def test_a_program_that_takes_one_buffer_or_one_read_is_found(self):
+        self.assertEqual(self.differs("cat"), [False, False])
+        self.assertEqual(self.differs("head -c 65536"), [True, False])
+        self.assertEqual(self.differs("dd bs=65536 count=1 status=none"), [True, True])
+
+    def test_a_linked_library_with_a_fault_is_found(self):
+        self.assertEqual(self.differs("cat", "--library", self.reading), [False, False])
+        self.assertEqual(self.differs("cat", "--library", "false"), [True, True])
 
 
 if __name__ == "__main__":

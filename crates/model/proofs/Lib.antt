@@ -15,6 +15,7 @@ pub mod Statistics
 pub mod Kept
 pub mod Store
 pub mod Parts
+pub mod Unread
 -- a fresh agent, and outcomes
 pub mod Default
 pub mod Outcomes

@@ -3,6 +3,7 @@
 --     Steps, due_step                  a step that is due: the first send, or one of the steps left
 --     step_not_due                     after a step it isn't due, unless a wait is zero
 --     stepped_changes                  a step changes the record
+--     moment_later                     its moment is no earlier at a later clock
 --     ahead, Between, still_ahead      neither due nor over: its moment lies ahead, and until then it is neither
 --     goes_stepped, loud_stays         `poll_transmit` that reaches it
 --     poll_loud                        `poll` that reaches one neither cancelled nor silenced
@@ -98,6 +99,14 @@ ahead t now r d o = go r.send_times d o
     go : (ts : SendTimes) → due_by t now r ts ≡ false → over_by t now r ts ≡ false → now < moment_by t now r ts
     go Never d o = absurd (true≢false d)
     go (Sent first last) d o = sent (passed_all t r) (due_of r last) (end_of t r last) d o
+
+pub moment_later : (t : Transport) (now soon : ℕ) (r : StunRequestState) → now ≤ soon → moment_of t now r ≤ moment_of t soon r
+unfolding moment_of
+moment_later t now soon r l = go r.send_times
+  where
+    go : (ts : SendTimes) → moment_by t now r ts ≤ moment_by t soon r ts
+    go Never = l
+    go (Sent first last) = omega arith
 
 pub record Between (t : Transport) (soon : ℕ) (r : StunRequestState) : Type 0 where
   pub not_due : is_due t soon r ≡ false

@@ -1,2 +1,3 @@
--- The specimens hold.
+-- The specimens and the values at the limits hold.
 mod Hold
+mod Edges

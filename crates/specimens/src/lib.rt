@@ -1,2 +1,2 @@
-// Document 01's specimens. There is no code here: specs/Specimens.antt lists them, and proofs/Hold.antt proves them all.
+// Document 01's specimens, and values on either side of each limit. There is no code here: specs/ lists them, and proofs/ computes them.
 #![tactic(auto)]

@@ -9,7 +9,7 @@
 --     event_is, event_on               its event; while statistics are on
 --     new_is                           the new peer
 --     new_request_lem                      the request that a submission adds
---     change-.., answer-..             its change of the requests and its answer, by its class
+--     change_.., answer_..             its change of the requests and its answer, by its class
 use Prim.Native.Nat.{ℕ, ◌+◌, ◌^◌, ◌≤◌}
 use mathlib.Core.Path.{◌≡◌, refl, sym, ap, ◌∙◌}
 use mathlib.Core.Bool.{true, false, cond, not}

@@ -7,11 +7,11 @@ ghost use Rattle.records.specs.Coding.{size};
 
 use line::LONGEST_LINE;
 use replay::Standing;
-use std::env::Env;
+use std::env::{Env, FillError};
 use std::fs::File;
 use std::io::{Input, Read};
 use std::rt::Files;
-use std::{env, io};
+use std::{io, str};
 
 // Where a replay stands behind a part of its input: the bytes of it that were used, the bytes of lines that were put, the next line's
 // number, and whether more may follow.
@@ -252,41 +252,52 @@ impl<I: Read, F: Read> Read for Trace<I, F> {
     }
 }
 
-// The trace: standard input without an argument, the file that it names with one; none where there is none.
-fn open<R: Env + Input + Files + Eprint + AllocGlobal>(
-    rt: &R,
-) -> io::Result<Option<Trace<R::Reader, R::File>>> {
-    let mut arguments = match env::args(rt) {
-        Ok(all) => all.skip(1),
-        Err(e) => {
-            eprintln!(rt; "purlanchor: the trace's name: {e}")?;
-            return Ok(None);
-        }
-    };
-    let Some(name) = arguments.next() else {
-        return Ok(Some(Trace::Input(rt.reader())));
-    };
-    if arguments.next().is_some() {
-        eprintln!(rt; "purlanchor: one trace at a time")?;
-        return Ok(None);
+// A name of a file, whole, fits as many bytes.
+const LONGEST_NAME: usize = 4096;
+
+// Whether the program was started with an argument i, whatever it is.
+fn has_argument<E: Env>(env: &E, i: usize) -> bool {
+    let mut nothing = [0u8; 0];
+    match env.arg(i, &mut nothing) {
+        Err(FillError::NotPresent) => false,
+        _ => true,
     }
-    match File::open(rt, &name) {
-        Ok(file) => Ok(Some(Trace::File(file))),
+}
+
+// The trace: standard input without an argument, the file that it names with one; none where there is none.
+fn open<R: Env + Input + Files + Eprint>(rt: &R) -> Option<Trace<R::Reader, R::File>> {
+    if !has_argument(rt, 1) {
+        return Some(Trace::Input(rt.reader()));
+    }
+    if has_argument(rt, 2) {
+        let _ = eprintln!(rt; "purlanchor: one trace at a time");
+        return None;
+    }
+    let mut name = [0u8; LONGEST_NAME];
+    let Ok(n) = rt.arg(1, &mut name) else {
+        let _ = eprintln!(rt; "purlanchor: the trace's name: File name too long");
+        return None;
+    };
+    let Ok(name) = str::from_utf8(&name[..n]) else {
+        let _ = eprintln!(rt; "purlanchor: the trace's name: not UTF-8");
+        return None;
+    };
+    match File::open(rt, name) {
+        Ok(file) => Some(Trace::File(file)),
         Err(e) => {
-            eprintln!(rt; "purlanchor: {name}: {e}")?;
-            Ok(None)
+            let _ = eprintln!(rt; "purlanchor: {name}: {e}");
+            None
         }
     }
 }
 
-fn main(rt: HostRuntime) -> io::Result<()> {
-    let Some(mut trace) = open(&rt)? else {
-        return Ok(());
+fn main(rt: HostRuntime) {
+    let Some(mut trace) = open(&rt) else {
+        return;
     };
     let mut buf = [0u8; 65536];
     let mut table = [0u64; 576];
     let mut store = [0u8; 32768];
     let mut out = [0u8; 65536];
     run(&rt, &mut trace, &mut buf, &mut table, &mut store, &mut out);
-    Ok(())
 }

@@ -29,10 +29,11 @@ def host_program(name, *arguments):
 
 
 def port_library():
-    """Proves and builds the port's static library, unless it is younger than every file of the crates."""
+    """Proves and builds the port's static library, unless it is younger than every file and folder in the crates."""
     library = ROOT / "target" / "staticlib" / "libreplay.a"
-    made = {"out"}  # what the prover keeps beside a crate's files
-    sources = [ROOT / "crates.txt", *(it for it in (ROOT / "crates").rglob("*") if it.is_file() and not made & set(it.parts))]
+    # A crate's own folder changes with each check, and so does out/ in it.
+    inside = [it for crate in (ROOT / "crates").iterdir() if crate.is_dir() for it in crate.iterdir() if it.name != "out"]
+    sources = [ROOT / "crates.txt", *inside, *(file for it in inside if it.is_dir() for file in it.rglob("*"))]
     if library.is_file() and all(source.stat().st_mtime < library.stat().st_mtime for source in sources):
         return
     if not shutil.which("rt"):

@@ -10,7 +10,6 @@ it would fall together with another, and writes OLD and NEW of each that it turn
 
 import os
 import re
-import subprocess
 import sys
 
 TOKEN = r"[^\s(){}\[\].;,@\"«»:`'|]+(?:'+)?"

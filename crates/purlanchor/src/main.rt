@@ -252,7 +252,7 @@ impl<I: Read, F: Read> Read for Trace<I, F> {
     }
 }
 
-// A name of a file, whole, fits as many bytes.
+// The longest name of a file that is taken, in bytes.
 const LONGEST_NAME: usize = 4096;
 
 // Whether the program was started with an argument i, whatever it is.

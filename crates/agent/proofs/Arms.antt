@@ -1,10 +1,13 @@
 -- A law for each kind of arm of `dispatch`: what a call's function answers behind the test of the state is what the model says of the
 -- call; and the law of refusal 1.
-use Prim.Native.Nat.{ℕ, zero, suc}
+use Rattle.model.specs.declared.Refusal.{Refusal}
+use Rattle.model.specs.declared.Refusal.TheVariants.{State}
+use Rattle.std.specs.Prelude.{None, Some, Option}
+use Rattle.request.specs.declared.StunRequestState.{StunRequestState}
+use Prim.Native.Nat.{ℕ}
 use mathlib.Core.Path.{◌≡◌, refl, sym, ap, ◌∙◌, subst}
 use mathlib.Core.Bool.{Bool, true, false, cond, ◌&&◌, and-eq-true_iff}
 use mathlib.Core.List.{List}
-use mathlib.Core.Option.{Option}
 use lib.Dec.{leb}
 use lib.ListN.{length}
 use Rattle.address.specs.declared.Address.{Address}
@@ -14,8 +17,6 @@ use Rattle.waits.specs.declared.Transport.{Transport}
 use Rattle.rows.specs.Rows.{with_rows}
 use Rattle.stats.specs.declared.StunAgentStats.{StunAgentStats}
 use Rattle.requests.specs.Search.{lookup}
-use Rattle.requests.specs.declared.Found.{Found}
-use Rattle.requests.specs.declared.Found.TheVariants.{At, Nothing}
 use Rattle.records.specs.Coding.{width, size}
 use Rattle.records.specs.Live.{live}
 use Rattle.model.specs.World.{World, state_formed, known}
@@ -32,31 +33,31 @@ use Rattle.model.proofs.Store.{stored_other}
 use Rattle.agent.specs.Ready.{world_of, ready}
 use Rattle.agent.specs.Called as called-specs
 use Rattle.agent.specs.Called.{refused_with, tried, effect, called, rows_after, TableAfter, unless, change_past, Acts, Turning, Counting, Carrying, Looking, Receiving, Submitting}
-use Rattle.agent.specs.Said.{refusal_in, said_in, unless_refused, words_in, Does, nowhere, address_in, Dispatched}
+use Rattle.agent.specs.Said.{refusal_in, said_in, unless_refused, words_in, Does, nowhere, Dispatched}
 use Rattle.agent.specs.declared.Called.{Called}
 use Rattle.agent.proofs.Ready.{state_ready}
 use Rattle.agent.proofs.Table.{kept_same, table_by}
 
--- ---- by the number
+-- ---- by the refusal
 
-words_by_lem : (n : ℕ) (c : Change) (tr : Transport) (k : ℕ) (t t' : List ℕ) → TableAfter tr (unless n c) k t t'
+words_by_lem : (n : Option Refusal) (c : Change) (tr : Transport) (k : ℕ) (t t' : List ℕ) → TableAfter tr (unless n c) k t t'
     → t' ≡ unless_refused n t (with_rows width t (rows_after tr c k t))
-words_by_lem zero c tr k t t' x = x.words
-words_by_lem (suc n) c tr k t t' x = x.words ∙ sym (kept_same tr k t).words
+words_by_lem None c tr k t t' x = x.words
+words_by_lem (Some q) c tr k t t' x = x.words ∙ sym (kept_same tr k t).words
 
-unless_keeps : (n : ℕ) (c : Change) → c ≡ keeps → unless n c ≡ keeps
-unless_keeps zero c e = e
-unless_keeps (suc n) c e = refl
+unless_keeps : (n : Option Refusal) (c : Change) → c ≡ keeps → unless n c ≡ keeps
+unless_keeps None c e = e
+unless_keeps (Some q) c e = refl
 
-unless_stores : (n : ℕ) (c : Change) (store m : List ℕ) → stored_by 32 store m c ≡ store → store ≡ stored_by 32 store m (unless n c)
-unless_stores zero c store m e = sym e
-unless_stores (suc n) c store m e = refl
+unless_stores : (n : Option Refusal) (c : Change) (store m : List ℕ) → stored_by 32 store m c ≡ store → store ≡ stored_by 32 store m (unless n c)
+unless_stores None c store m e = sym e
+unless_stores (Some q) c store m e = refl
 
-query_keeps : (f : Found) → on_found f keeps (wished query) ≡ keeps
-query_keeps (At i r) = refl
-query_keeps Nothing = refl
+query_keeps : (f : Option (ℕ × StunRequestState)) → on_found f keeps (wished query) ≡ keeps
+query_keeps (Some (i, r)) = refl
+query_keeps None = refl
 
-bad_state_lem : (b s : Bool) (n : ℕ) → (b && s) ≡ false → (s ≡ false → n ≡ 1) → cond b n 1 ≡ 1
+bad_state_lem : (b s : Bool) (n : Option Refusal) → (b && s) ≡ false → (s ≡ false → n ≡ Some State) → cond b n (Some State) ≡ Some State
 bad_state_lem true s n e f = f e
 bad_state_lem false s n e f = refl
 
@@ -67,35 +68,35 @@ module _ (a : StunAgent) (t store : List ℕ) (peers : List Address) (st : StunA
   abbrev done : Said
   done = record { answer = answer_of 32 w k m; world = after 32 w k m }
 
-  holds_by : (n : ℕ) (t' : List ℕ) → TableAfter a.transport (unless n (change_of 32 w k m)) a.requests t t'
+  holds_by : (n : Option Refusal) (t' : List ℕ) → TableAfter a.transport (unless n (change_of 32 w k m)) a.requests t t'
       → live (tried n a (effect 32 w k m)).agent.requests t' ≡ (decided n w done).world.requests
-  holds_by zero t' x =
+  holds_by None t' x =
       ap (λ (y : StunAgent). live y.requests t') (agent_after_lem 32 w k m (change_of 32 w k m) (new_peer w k m) refl refl)
       ∙ (x.holds ∙ sym (leaves 32 w k m).requests)
-  holds_by (suc n) t' x = x.holds
+  holds_by (Some q) t' x = x.holds
 
-  stores_by : (n : ℕ) → (decided n w done).world.store ≡ stored_by 32 store m (unless n (change_of 32 w k m))
-  stores_by zero = (leaves 32 w k m).store
-  stores_by (suc n) = refl
+  stores_by : (n : Option Refusal) → (decided n w done).world.store ≡ stored_by 32 store m (unless n (change_of 32 w k m))
+  stores_by None = (leaves 32 w k m).store
+  stores_by (Some q) = refl
 
-  refused_does : (n : ℕ) (r : Called) → refusal_in t w k m ≡ suc n → r ≡ refused_with a (suc n) → Does w k m t t store r
+  refused_does : (q : Refusal) (r : Called) → refusal_in t w k m ≡ Some q → r ≡ refused_with a q → Does w k m t t store r
   unfolding said_in words_in
   refused_does n r e f = record {
-    says = f ∙ ap (λ (i : ℕ). tried i a (effect 32 w k m)) (sym e);
-    words = ap (λ (i : ℕ). unless_refused i t (with_rows width t (rows_after a.transport (change_of 32 w k m) a.requests t))) (sym e);
-    holds = ap (λ (x : Called). live x.agent.requests t) f ∙ ap (λ (i : ℕ). (decided i w done).world.requests) (sym e);
-    stores = ap (λ (i : ℕ). (decided i w done).world.store) (sym e);
+    says = f ∙ ap (λ (i : Option Refusal). tried i a (effect 32 w k m)) (sym e);
+    words = ap (λ (i : Option Refusal). unless_refused i t (with_rows width t (rows_after a.transport (change_of 32 w k m) a.requests t))) (sym e);
+    holds = ap (λ (x : Called). live x.agent.requests t) f ∙ ap (λ (i : Option Refusal). (decided i w done).world.requests) (sym e);
+    stores = ap (λ (i : Option Refusal). (decided i w done).world.store) (sym e);
   }
 
 -- ---- refusal 1
 
 module _ (a : StunAgent) (places : ℕ) (t store : List ℕ) (isKnown : Bool) (st : StunAgentStats) (m : List ℕ) (r : Called) (c : Call) where
-  pub unready_arm : ready a places t store ≡ false → r ≡ refused_with a 1 → Dispatched a c isKnown places st m t store t store r
+  pub unready_arm : ready a places t store ≡ false → r ≡ refused_with a State → Dispatched a c isKnown places st m t store t store r
   unfolding refusal_in
   unready_arm e f = λ peers fits is.
       let here = world_of a t store peers st in
       let no = sym (state_ready a places t store peers st fits) ∙ e in
-      refused_does a t store peers st (kind_of c) m 0 r
+      refused_does a t store peers st (kind_of c) m State r
       (bad_state_lem (leb size (length t)) (state_formed 32 here) (refusal_of 32 here (kind_of c) m) no (bad_state_first 32 here (kind_of c) m)) f
 
 -- ---- in a state that is ready
@@ -110,16 +111,16 @@ module _ (a : StunAgent) (places : ℕ) (t store : List ℕ) (isKnown : Bool) (s
 
     number_past : refusal_in t here k m ≡ refusal_past 32 here k m
     unfolding refusal_in
-    number_past = ap (λ (b : Bool). cond b (refusal_of 32 here k m) 1) good.0 ∙ past_state_lem 32 here k m good.1
+    number_past = ap (λ (b : Bool). cond b (refusal_of 32 here k m) (Some State)) good.0 ∙ past_state_lem 32 here k m good.1
 
     change_past_lem : unless (refusal_in t here k m) (change_of 32 here k m) ≡ change_past 32 here k m
     unfolding change_past
-    change_past_lem = ap (λ (n : ℕ). unless n (change_of 32 here k m)) number_past
+    change_past_lem = ap (λ (n : Option Refusal). unless n (change_of 32 here k m)) number_past
 
     does : (t' store' : List ℕ) → Acts here k m t t' r → store' ≡ stored_by 32 store m (change_past 32 here k m) → Does here k m t t' store' r
     unfolding called said_in words_in
     does t' store' x e =
-        let says = x.says ∙ ap (λ (n : ℕ). tried n a (effect 32 here k m)) (sym number_past) in
+        let says = x.says ∙ ap (λ (n : Option Refusal). tried n a (effect 32 here k m)) (sym number_past) in
         let then = table_by a.transport a.requests t t' _ (change_past 32 here k m) change_past_lem x.then in
         record {
           says = says;
@@ -189,8 +190,3 @@ module _ (a : StunAgent) (places : ℕ) (t store : List ℕ) (isKnown : Bool) (s
   submitting_arm to now t' store' e x =
       by_kind (carries (submits to now)) t' store' e (λ peers fits is.
       does (carries (submits to now)) peers fits t' store' (x peers st).acts (x peers st).stores)
-
--- ---- the address
-
-pub address_by_lem : (c : Call) (k : Kind) (x : Address) → kind_of c ≡ k → x ≡ on_some (address_of k) nowhere (λ y. y) → x ≡ address_in c
-address_by_lem c k x e f = f ∙ ap (λ (z : Kind). on_some (address_of z) nowhere (λ y. y)) (sym e)

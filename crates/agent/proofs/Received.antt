@@ -1,35 +1,31 @@
 -- A law for each way through a received message.
-use Prim.Native.Nat.{ℕ, ◌+◌, ◌^◌, ◌<◌}
+use Rattle.model.specs.declared.Refusal.TheVariants.{Clock, BadMessage, PeersFull}
+use Rattle.model.specs.declared.Refusal.{Refusal}
+use Rattle.std.specs.Prelude.{None, Some, Option, Ok, Err}
+use Prim.Native.Nat.{ℕ, ◌+◌, ◌-◌, ◌^◌}
 use mathlib.Core.Path.{◌≡◌, refl, sym, ap, ◌∙◌}
-use mathlib.Core.Bool.{Bool, true, false, cond, not, ◌&&◌}
+use mathlib.Core.Bool.{Bool, true, false, cond}
 use mathlib.Core.List.{List}
-use mathlib.Core.Option.{Option, none, some}
 use lib.Dec.{leb, ltb}
 use lib.ListN.{length}
-use borrow.Author.Tests.{ltb-false, leb-false}
+use borrow.Author.Tests.{ltb-false}
 use Rattle.address.specs.declared.Address.{Address}
 use Rattle.message.specs.Head.{key}
 use Rattle.message.specs.Attributes.{message_of}
 use Rattle.message.specs.declared.MessageClass.{MessageClass}
 use Rattle.message.specs.declared.MessageClass.TheVariants.{Request, Indication, Success, Error}
 use Rattle.message.specs.declared.Message.{Message}
-use Rattle.message.specs.declared.Parsed.{Parsed}
-use Rattle.message.specs.declared.Parsed.TheVariants.{Good, Bad}
-use Rattle.stats.specs.declared.Rtt.{Rtt}
 use Rattle.stats.specs.declared.StunAgentStats.{StunAgentStats}
 use Rattle.stats.specs.declared.Event.{Event}
 use Rattle.stats.specs.declared.Event.TheVariants as event
-use Rattle.request.specs.Limits.{RequestLimits}
 use Rattle.request.specs.declared.StunRequestState.{StunRequestState}
 use Rattle.request.proofs.Limits.{limits_later}
 use Rattle.requests.specs.Search.{lookup}
-use Rattle.requests.specs.declared.Found.{Found}
-use Rattle.requests.specs.declared.Found.TheVariants.{At, Nothing}
 use Rattle.requests.proofs.Lists.{neither, apart}
 use Rattle.requests.proofs.Search.{found_at, placed_within}
 use Rattle.records.specs.Live.{live}
 use Rattle.model.specs.World.{World, known}
-use Rattle.model.specs.Calls.{Kind, carries, receives, on_some}
+use Rattle.model.specs.Calls.{Kind, carries, receives}
 use Rattle.model.specs.Accepts.{new_peer, on_message, is_response, accepts}
 use Rattle.model.specs.Refusals.{refusal_past}
 use Rattle.model.specs.Effects.{Change, keeps, removes, answered, received_as, rtt_at, yes_or_no, count_after, change_of, answer_of, event_by}
@@ -38,18 +34,16 @@ use Rattle.model.specs.declared.Answer.TheVariants as answer
 use Rattle.model.proofs.Classes.{past_receives, new_is, change_receives, answer_receives}
 use Rattle.model.proofs.Received.{plain_accepted, answer_accepted, plain_change, found_change, none_change}
 use Rattle.agent.specs.Ready.{world_of, Lent}
-use Rattle.agent.specs.Called.{called_of, refused_with, noted, TableAfter, Acts, option_of, is_past, mark_by, rtt_by, Timely}
+use Rattle.agent.specs.Called.{called_of, refused_with, noted, moved, TableAfter, Acts, is_past, mark_by, on_receipt, rtt_by, Timely, admitted}
 use Rattle.agent.specs.declared.Called.{Called}
-use Rattle.agent.specs.declared.Clock.{Clock}
-use Rattle.agent.specs.declared.Clock.TheVariants as clock
-use Rattle.agent.specs.declared.Place.{Place}
-use Rattle.agent.specs.declared.Place.TheVariants as place
-use Rattle.agent.proofs.Model.{moved, quiet, refuses, performs}
-use Rattle.agent.proofs.Table.{kept_same}
+use Rattle.agent.specs.declared.Contact.{Contact}
+use Rattle.agent.proofs.Model.{refuses, performs}
+use Rattle.agent.proofs.Peers.{by_new, is_crowded, full_is, joins_is}
+use Rattle.agent.proofs.Table.{kept_same, err_by, ok_by, searchable, found_place}
 
 -- ---- what is counted, by the class and what was found
 
-plain_event : (n : ℕ) (r s : Rtt) (c : MessageClass) → is_response c ≡ false → received_as n r c ≡ received_as n s c
+plain_event : (n : ℕ) (r s : Option ℕ) (c : MessageClass) → is_response c ≡ false → received_as n r c ≡ received_as n s c
 plain_event n r s Request e = refl
 plain_event n r s Indication e = refl
 plain_event n r s Success e = apart e
@@ -59,37 +53,43 @@ module _ (l : List StunRequestState) (from : Address) (x : Message) where
   abbrev counts : ℕ → Option ℕ → Event
   counts n clk = cond (accepts l from x) (received_as n (rtt_at clk (lookup (key x.transaction_id) l)) x.class) event.Nothing
 
-  plain_counts : (n : ℕ) (clk : Option ℕ) (r : Rtt) → is_response x.class ≡ false → received_as n r x.class ≡ counts n clk
+  plain_counts : (n : ℕ) (clk : Option ℕ) (r : Option ℕ) → is_response x.class ≡ false → received_as n r x.class ≡ counts n clk
   plain_counts n clk r e =
       plain_event n r (rtt_at clk (lookup (key x.transaction_id) l)) x.class e
       ∙ ap (λ (b : Bool). cond b (received_as n (rtt_at clk (lookup (key x.transaction_id) l)) x.class) event.Nothing) (sym (plain_accepted l from x e))
 
-  found_counts : (n : ℕ) (c : Clock) → is_response x.class ≡ true → (i : ℕ) (q : StunRequestState) → lookup (key x.transaction_id) l ≡ At i q
-      → received_as n (rtt_by c q) x.class ≡ counts n (option_of c)
+  found_counts : (n : ℕ) (c : Option ℕ) → is_response x.class ≡ true → (i : ℕ) (q : StunRequestState) → lookup (key x.transaction_id) l ≡ Some (i, q)
+      → received_as n (rtt_by c q) x.class ≡ counts n c
   found_counts n c e i q g =
-      ap (λ (f : Found). received_as n (rtt_at (option_of c) f) x.class) (sym g)
-      ∙ ap (λ (b : Bool). cond b (received_as n (rtt_at (option_of c) (lookup (key x.transaction_id) l)) x.class) event.Nothing) (sym (answer_accepted l from x e (At i q) g))
+      ap (λ (f : Option (ℕ × StunRequestState)). received_as n (rtt_at c f) x.class) (sym g)
+      ∙ ap (λ (b : Bool). cond b (received_as n (rtt_at c (lookup (key x.transaction_id) l)) x.class) event.Nothing) (sym (answer_accepted l from x e (Some (i, q)) g))
 
-  none_counts : (n : ℕ) (clk : Option ℕ) → is_response x.class ≡ true → lookup (key x.transaction_id) l ≡ Nothing → counts n clk ≡ event.Nothing
-  none_counts n clk e g = rw (answer_accepted l from x e Nothing g)
+  none_counts : (n : ℕ) (clk : Option ℕ) → is_response x.class ≡ true → lookup (key x.transaction_id) l ≡ None → counts n clk ≡ event.Nothing
+  none_counts n clk e g = rw (answer_accepted l from x e None g)
+
+-- ---- the clock
+
+-- A clock that isn't refused, or none, and the agent there; and one that is.
+pub record OnTime (a : StunAgent) (c : Option ℕ) (b : StunAgent) : Type 0 where
+  pub early : is_past a c ≡ false
+  pub agent_is : b ≡ moved a (mark_by a c) a.requests a.peers
+
+pub record Past (a : StunAgent) (c : Option ℕ) (q : Refusal) : Type 0 where
+  pub late : is_past a c ≡ true
+  pub is : q ≡ Clock
+
+module _ (a : StunAgent) (c : Option ℕ) where
+  past_is : (q : Refusal) → on_receipt a c ≡ Err q → Past a c q
+  unfolding on_receipt
+  past_is q e = let z = err_by (is_past a c) Clock q (moved a (mark_by a c) a.requests a.peers) e in record { late = z.0; is = z.1 }
+
+  on_time_is : (b : StunAgent) → on_receipt a c ≡ Ok b → OnTime a c b
+  unfolding on_receipt
+  on_time_is b e = let z = ok_by (is_past a c) Clock (moved a (mark_by a c) a.requests a.peers) b e in record { early = z.0; agent_is = z.1 }
 
 -- ---- the ways
 
--- What is counted, as the code has it.
-counted_as_lem : (a next : StunAgent) (p : Place) (n len : ℕ) (r s : Rtt) (c : MessageClass) (f e z : Event) → n ≡ len → r ≡ s → f ≡ received_as n r c → e ≡ noted a f → received_as len s c ≡ z
-    → called_of next answer.Yes e p ≡ called_of next answer.Yes (noted a z) p
-counted_as_lem a next p n len r s c f e z g h i j k = ap (λ (y : Event). called_of next answer.Yes y p) (j ∙ ap (noted a) (i ∙ ap (λ (y : ℕ). received_as y r c) g ∙ ap (λ (y : Rtt). received_as len y c) h ∙ k))
-
-negated : (is full : Bool) → cond is false full ≡ (not is && full)
-negated true full = refl
-negated false full = refl
-
--- A choice by the new peer, where it is known whether the sender is one already.
-by_new : {B : Type 0} (is : Bool) (from : Address) (b c : B) → on_some (cond is none (some from)) b (λ x. c) ≡ cond is b c
-by_new true from b c = refl
-by_new false from b c = refl
-
-module _ (a : StunAgent) (t : List ℕ) (from : Address) (is : Bool) (places : ℕ) (c : Clock) (m store : List ℕ) (peers : List Address) (st : StunAgentStats) (r : Called) (fits : length peers ≡ places) (k : known (world_of a t store peers st) from ≡ is) where
+module _ (a : StunAgent) (t : List ℕ) (from : Address) (y : Contact) (c : Option ℕ) (m store : List ℕ) (peers : List Address) (st : StunAgentStats) (fits : length peers ≡ y.places) (k : known (world_of a t store peers st) from ≡ y.known) where
   abbrev w : World
   w = world_of a t store peers st
 
@@ -97,99 +97,101 @@ module _ (a : StunAgent) (t : List ℕ) (from : Address) (is : Bool) (places : �
   reqs = live a.requests t
 
   abbrev reception : Kind
-  reception = carries (receives from (option_of c))
+  reception = carries (receives from c)
 
-  abbrev Done : List ℕ → Type 0
-  Done t' = Acts w reception m t t' r
+  abbrev Done : List ℕ → Called → Type 0
+  Done t' r = Acts w reception m t t' r
 
-  pub receives_late : is_past a c ≡ true → r ≡ refused_with a 3 → Done t
-  receives_late e f = refuses a t store peers st reception m r 2 (past_receives 32 w m from (option_of c) ∙ rw e) f
+  pub receives_late : (q : Refusal) → on_receipt a c ≡ Err q → Done t (refused_with a q)
+  receives_late q e = let z = past_is a c q e in rw z.is (refuses a t store peers st reception m Clock (past_receives 32 w m from c ∙ rw z.late))
 
-  pub receives_bad : is_past a c ≡ false → message_of m ≡ Bad → r ≡ refused_with a 5 → Done t
-  receives_bad e g f = refuses a t store peers st reception m r 4 (past_receives 32 w m from (option_of c) ∙ rw (e, g)) f
+  module _ (next : StunAgent) (on_time : on_receipt a c ≡ Ok next) where
+    early : is_past a c ≡ false
+    early = (on_time_is a c next on_time).early
 
-  module _ (x : Message) (e : is_past a c ≡ false) (g : message_of m ≡ Good x) where
-    nobody : accepts reqs from x ≡ false → new_peer w reception m ≡ none
-    nobody h = new_is 32 w reception m ∙ rw (g, h)
+    pub receives_bad : message_of m ≡ None → Done t (refused_with a BadMessage)
+    receives_bad g = refuses a t store peers st reception m BadMessage (past_receives 32 w m from c ∙ rw (early, g))
 
-    sender_new : accepts reqs from x ≡ true → new_peer w reception m ≡ cond is none (some from)
-    sender_new h = new_is 32 w reception m ∙ rw (g, h, k)
+    module _ (x : Message) (g : message_of m ≡ Some x) where
+      nobody : accepts reqs from x ≡ false → new_peer w reception m ≡ None
+      nobody h = new_is 32 w reception m ∙ rw (g, h)
 
-    -- refusal 10, or none
-    number_is : accepts reqs from x ≡ true → (b : Bool) → (not is && leb places a.peers) ≡ b → refusal_past 32 w reception m ≡ cond b 10 0
-    number_is h b i =
-        past_receives 32 w m from (option_of c)
-        ∙ rw (e, g, sender_new h, fits, by_new is from false (leb places a.peers), negated is (leb places a.peers), i)
+      sender_new : accepts reqs from x ≡ true → new_peer w reception m ≡ cond y.known None (Some from)
+      sender_new h = new_is 32 w reception m ∙ rw (g, h, k)
 
-    change_is : (d : Change) → answered reqs from x ≡ d → change_of 32 w reception m ≡ d
-    change_is d i = change_receives 32 w m from (option_of c) ∙ (ap (λ (p : Parsed). on_message p keeps (answered reqs from)) g ∙ i)
+      -- refusal 10, or none
+      number_is : accepts reqs from x ≡ true → (b : Bool) → is_crowded y a ≡ b → refusal_past 32 w reception m ≡ cond b (Some PeersFull) None
+      number_is h b i = past_receives 32 w m from c ∙ rw (early, g, sender_new h, fits, by_new y.known from false (leb y.places a.peers), i)
 
-    answer_is : (b : Bool) → accepts reqs from x ≡ b → answer_of 32 w reception m ≡ yes_or_no b
-    answer_is b h = answer_receives 32 w m from (option_of c) ∙ rw (g, h)
+      change_is : (d : Change) → answered reqs from x ≡ d → change_of 32 w reception m ≡ d
+      change_is d i = change_receives 32 w m from c ∙ (ap (λ (p : Option Message). on_message p keeps (answered reqs from)) g ∙ i)
 
-    event_by_lem : event_by w reception m ≡ counts reqs from x (length m) (option_of c)
-    event_by_lem = ap (λ (p : Parsed). on_message p event.Nothing (λ y. counts reqs from y (length m) (option_of c))) g
+      answer_is : (b : Bool) → accepts reqs from x ≡ b → answer_of 32 w reception m ≡ yes_or_no b
+      answer_is b h = answer_receives 32 w m from c ∙ rw (g, h)
 
-    refused_full : accepts reqs from x ≡ true → (not is && leb places a.peers) ≡ true → r ≡ refused_with a 10 → Done t
-    refused_full h i f = refuses a t store peers st reception m r 9 (number_is h true i) f
+      event_is : event_by w reception m ≡ counts reqs from x (length m) c
+      event_is = ap (λ (p : Option Message). on_message p event.Nothing (λ z. counts reqs from z (length m) c)) g
 
-    accepted : (t' : List ℕ) (d : Change) → accepts reqs from x ≡ true → answered reqs from x ≡ d → (not is && leb places a.peers) ≡ false → TableAfter a.transport d a.requests t t'
-        → r ≡ called_of (moved a (mark_by a c) (count_after d a.requests) (cond is a.peers (a.peers + 1))) answer.Yes (noted a (counts reqs from x (length m) (option_of c))) (cond is place.Nowhere (place.At a.peers)) → Done t'
-    accepted t' d h j i y f =
-        performs a t store peers st reception m r t' d answer.Yes (noted a (counts reqs from x (length m) (option_of c))) (cond is none (some from))
-        (number_is h false i) (change_is d j) (answer_is true h) (ap (noted a) event_by_lem) (sender_new h) y
-        (rw (by_new is from a.peers (a.peers + 1), by_new is from place.Nowhere (place.At a.peers)) f)
+      -- The agent at the clock has the agent's peers.
+      full : accepts reqs from x ≡ true → (q : Refusal) → admitted y next ≡ Err q → Done t (refused_with a q)
+      full h q i =
+          let z = full_is y next q i in
+          let crowd : is_crowded y a ≡ true = rw (on_time_is a c next on_time).agent_is at z.crowd in
+          rw z.is (refuses a t store peers st reception m PeersFull (number_is h true crowd))
 
-    pub receives_none : is_response x.class ≡ true → lookup (key x.transaction_id) reqs ≡ Nothing
-        → (mark : ℕ) → mark ≡ mark_by a c → r ≡ called_of (moved a mark a.requests a.peers) answer.No event.Nothing place.Nowhere → Done t
-    receives_none h i mark j f =
-        let no = answer_accepted reqs from x h Nothing i in
-        performs a t store peers st reception m r t keeps answer.No event.Nothing none
-        (past_receives 32 w m from (option_of c) ∙ rw (e, g, nobody no)) (change_is keeps (none_change reqs from x h i)) (answer_is false no)
-        (ap (noted a) (event_by_lem ∙ none_counts reqs from x (length m) (option_of c) h i) ∙ quiet a.stats) (nobody no)
-        (kept_same a.transport a.requests t)
-        (f ∙ ap (λ (z : ℕ). called_of (moved a z a.requests a.peers) answer.No event.Nothing place.Nowhere) j)
+      accepted : (t' : List ℕ) (d : Change) (e : Event) → accepts reqs from x ≡ true → answered reqs from x ≡ d → e ≡ counts reqs from x (length m) c
+          → TableAfter a.transport d a.requests t t' → (b : StunAgent) (p : Option ℕ) → admitted y next ≡ Ok (b, p)
+          → Done t' (called_of (moved b b.mark (count_after d b.requests) b.peers) answer.Yes (noted b e) p)
+      accepted t' d e h j l z b p i =
+          let at = (on_time_is a c next on_time).agent_is in
+          let q = joins_is y next b p i in
+          let room : is_crowded y a ≡ false = rw at at q.room in
+          rw (q.agent_is, q.place_is, at, ← by_new y.known from a.peers (a.peers + 1), ← by_new y.known from None (Some a.peers))
+          (performs a t store peers st reception m t' d answer.Yes e (cond y.known None (Some from))
+          (number_is h false room) (change_is d j) (answer_is true h) (event_is ∙ sym l) (sender_new h) z)
 
-    pub plain_full : is_response x.class ≡ false → (not is && leb places a.peers) ≡ true → r ≡ refused_with a 10 → Done t
-    plain_full h i f = refused_full (plain_accepted reqs from x h) i f
+      pub receives_none : is_response x.class ≡ true → lookup (key x.transaction_id) reqs ≡ None → Done t (called_of next answer.No (noted next event.Nothing) None)
+      receives_none h i =
+          let no = answer_accepted reqs from x h None i in
+          rw (on_time_is a c next on_time).agent_is
+          (performs a t store peers st reception m t keeps answer.No event.Nothing None
+          (past_receives 32 w m from c ∙ rw (early, g, nobody no)) (change_is keeps (none_change reqs from x h i)) (answer_is false no)
+          (event_is ∙ none_counts reqs from x (length m) c h i) (nobody no) (kept_same a.transport a.requests t))
 
-    pub found_full : (i : ℕ) (q : StunRequestState) → is_response x.class ≡ true → lookup (key x.transaction_id) reqs ≡ At i q
-        → (not is && leb places a.peers) ≡ true → r ≡ refused_with a 10 → Done t
-    found_full i q h j l f = refused_full (answer_accepted reqs from x h (At i q) j) l f
+      pub plain_full : is_response x.class ≡ false → (q : Refusal) → admitted y next ≡ Err q → Done t (refused_with a q)
+      plain_full h = full (plain_accepted reqs from x h)
 
-    module _ (n mark joined : ℕ) (f v : Event) (pl : Place) (crowd : (not is && leb places a.peers) ≡ false) (len_is : n ≡ length m) (mark-is : mark ≡ mark_by a c) (joined_is : joined ≡ cond is a.peers (a.peers + 1)) (noted-is : v ≡ noted a f) (place_is : pl ≡ cond is place.Nowhere (place.At a.peers)) where
-      pub plain_yes : (s : Rtt) → is_response x.class ≡ false → f ≡ received_as n s x.class → r ≡ called_of (moved a mark a.requests joined) answer.Yes v pl → Done t
-      plain_yes s h i z =
-          accepted t keeps (plain_accepted reqs from x h) (plain_change reqs from x h) crowd (kept_same a.transport a.requests t)
-          (rw (← mark-is, ← joined_is, ← place_is) (z ∙ counted_as_lem a (moved a mark a.requests joined) pl n (length m) s s x.class f v _ len_is refl i noted-is (plain_counts reqs from x (length m) (option_of c) s h)))
+      pub found_full : (i : ℕ) (r : StunRequestState) → is_response x.class ≡ true → lookup (key x.transaction_id) reqs ≡ Some (i, r)
+          → (q : Refusal) → admitted y next ≡ Err q → Done t (refused_with a q)
+      found_full i r h j = full (answer_accepted reqs from x h (Some (i, r)) j)
 
-      pub found_yes : (t' : List ℕ) (i : ℕ) (q : StunRequestState) (s : Rtt) → is_response x.class ≡ true → lookup (key x.transaction_id) reqs ≡ At i q
-          → s ≡ rtt_by c q → TableAfter a.transport (removes i) a.requests t t' → f ≡ received_as n s x.class
-          → r ≡ called_of (moved a mark (count_after (removes i) a.requests) joined) answer.Yes v pl → Done t'
-      found_yes t' i q s h j u y w z =
-          accepted t' (removes i) (answer_accepted reqs from x h (At i q) j) (found_change reqs from x h i q j) crowd y
-          (rw (← mark-is, ← joined_is, ← place_is) (z ∙ counted_as_lem a (moved a mark (count_after (removes i) a.requests) joined) pl n (length m) s (rtt_by c q) x.class f v _ len_is u w noted-is (found_counts reqs from x (length m) c h i q j)))
+      module _ (b : StunAgent) (p : Option ℕ) (joined : admitted y next ≡ Ok (b, p)) where
+        pub plain_yes : is_response x.class ≡ false → Done t (called_of b answer.Yes (noted b (received_as (length m) None x.class)) p)
+        plain_yes h =
+            accepted t keeps (received_as (length m) None x.class) (plain_accepted reqs from x h) (plain_change reqs from x h)
+            (plain_counts reqs from x (length m) c None h) (kept_same a.transport a.requests t) b p joined
+
+        pub found_yes : (t' : List ℕ) (i : ℕ) (q : StunRequestState) → is_response x.class ≡ true → lookup (key x.transaction_id) reqs ≡ Some (i, q)
+            → TableAfter a.transport (removes i) a.requests t t'
+            → Done t' (called_of (moved b b.mark (b.requests - 1) b.peers) answer.Yes (noted b (received_as (length m) (rtt_by c q) x.class)) p)
+        found_yes t' i q h j z =
+            accepted t' (removes i) (received_as (length m) (rtt_by c q) x.class) (answer_accepted reqs from x h (Some (i, q)) j) (found_change reqs from x h i q j)
+            (found_counts reqs from x (length m) c h i q j) z b p joined
+
+-- The agent at the clock, with the sender among its peers, has as many requests.
+pub joined_count : (a : StunAgent) (c : Option ℕ) (next : StunAgent) → on_receipt a c ≡ Ok next → (y : Contact) (b : StunAgent) (p : Option ℕ) → admitted y next ≡ Ok (b, p)
+    → b.requests ≡ a.requests
+joined_count a c next e y b p f = ap (λ (x : StunAgent). x.requests) ((joins_is y next b p f).agent_is) ∙ ap (λ (x : StunAgent). x.requests) ((on_time_is a c next e).agent_is)
 
 -- The request was last sent no later than the clock, which isn't below the mark.
-pub timely : (a : StunAgent) (t : List ℕ) → Lent a t → (c : Clock) → is_past a c ≡ false → (k i : ℕ) (q : StunRequestState) → lookup k (live a.requests t) ≡ At i q → Timely c q
-timely a t s (clock.At now) e k i q f =
-    limits_later 32 a.mark now q (ltb-false now a.mark (neither (ltb (2 ^ 60) now) (ltb now a.mark) e).1)
-    (placed_within 32 a.mark (live a.requests t) i q s.requests.within (found_at k i q (live a.requests t) f).placed)
-timely a t s clock.Absent e k i q f = tt
+pub timely : (a : StunAgent) (t : List ℕ) → Lent a t → (c : Option ℕ) (next : StunAgent) → on_receipt a c ≡ Ok next → (k i : ℕ) (q : StunRequestState) → lookup k (live a.requests t) ≡ Some (i, q) → Timely c q
+timely a t s c next e k i q f = go c (on_time_is a c next e).early
+  where
+    go : (d : Option ℕ) → is_past a d ≡ false → Timely d q
+    go (Some now) h =
+        limits_later 32 a.mark now q (ltb-false now a.mark (neither (ltb (2 ^ 60) now) (ltb now a.mark) h).1)
+        (placed_within 32 a.mark (live a.requests t) i q s.requests.within (found_at k i q (live a.requests t) f).placed)
+    go None h = tt
 
-pub timely_at : (c : Clock) (now : ℕ) (q : StunRequestState) → c ≡ clock.At now → Timely c q → RequestLimits 32 now q
-timely_at c now q e x = rw e at x
-
--- ---- the parts
-
-pub crowded_new : (k full : Bool) → k ≡ false → full ≡ (not k && full)
-crowded_new k full e = rw e
-
-pub new_place : (k : Bool) (n : ℕ) → k ≡ false → place.At n ≡ cond k place.Nowhere (place.At n)
-new_place k n e = rw e
-
-pub new_count : (k : Bool) (n : ℕ) → k ≡ false → n + 1 ≡ cond k n (n + 1)
-new_count k n e = rw e
-
-pub room_left : (k : Bool) (n places : ℕ) → k ≡ false → (not k && leb places n) ≡ false → n < places
-room_left k n places e f = leb-false places n (rw e at f)
+-- What `handle_stun_message_internal` stands on.
+pub ruleset received = (searchable, found_place, timely, joined_count)

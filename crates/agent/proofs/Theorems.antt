@@ -1,8 +1,10 @@
 -- Theorems about the promises of the agent's public functions.
 --     one_outcome, one_dispatched    at most one outcome meets the promise of `dispatch`
---     answer_says, refused_same      the number in the answer is the refusal's; a refused call changes nothing and leaves nothing to do
+--     answer_says, refused_same      the answer tells the refusal; a refused call changes nothing and leaves nothing to do
 --     one_part                       at most one part meets the promise of `transmission`
 -- At most one answer meets that of `build`, which is the model's equation, by the model's `one_built`.
+use Rattle.std.specs.Prelude.{None, Some, Option}
+use Rattle.model.specs.declared.Refusal.{Refusal}
 use Prim.Native.Nat.{ℕ, zero, suc, ◌<◌}
 use mathlib.Core.Path.{◌≡◌, refl, sym, ap, ◌∙◌}
 use mathlib.Core.Bool.{Bool, true, false, ◌&&◌}
@@ -21,7 +23,7 @@ use Rattle.peers.specs.Peers.{listed}
 use Rattle.model.specs.World.{World}
 use Rattle.model.specs.Calls.{Kind}
 use Rattle.model.specs.Effects.{answer_of, after}
-use Rattle.model.specs.Says.{Said, number_in, decided}
+use Rattle.model.specs.Says.{Said, refused_by, decided}
 use Rattle.model.specs.declared.StunAgent.{StunAgent}
 use Rattle.model.specs.declared.Call.{Call}
 use Rattle.agent.specs.Ready.{HandsOut}
@@ -36,23 +38,23 @@ module _ (w : World) (k : Kind) (m t t' store' : List ℕ) (r : Called) (d : Doe
   pub one_outcome : (t'' store'' : List ℕ) (s : Called) → Does w k m t t'' store'' s → (r ≡ s) × (t' ≡ t'') × (store' ≡ store'')
   one_outcome t'' store'' s e = (d.says ∙ sym e.says, d.words ∙ sym e.words, d.stores ∙ sym e.stores)
 
-  pub answer_says : number_in r.answer ≡ refusal_in t w k m
+  pub answer_says : refused_by r.answer ≡ refusal_in t w k m
   answer_says =
-      ap (λ (x : Called). number_in x.answer) d.says
-      ∙ (go (refusal_in t w k m) ∙ ap (λ (s : Said). number_in s.answer) (sym (said_by t w k m)))
+      ap (λ (x : Called). refused_by x.answer) d.says
+      ∙ (go (refusal_in t w k m) ∙ ap (λ (s : Said). refused_by s.answer) (sym (said_by t w k m)))
       ∙ said_number t w k m
     where
-      go : (n : ℕ) → number_in (tried n w.agent (effect 32 w k m)).answer
-          ≡ number_in (decided n w (record { answer = answer_of 32 w k m; world = after 32 w k m })).answer
-      go zero = refl
-      go (suc n) = refl
+      go : (n : Option Refusal) → refused_by (tried n w.agent (effect 32 w k m)).answer
+          ≡ refused_by (decided n w (record { answer = answer_of 32 w k m; world = after 32 w k m })).answer
+      go None = refl
+      go (Some q) = refl
 
   -- "A refused call answers its number and leaves state, statistics, store and peers unchanged, the clock mark included": no event is to
   -- be counted, and no peer to be put down.
-  pub refused_same : (n : ℕ) → number_in r.answer ≡ suc n → (r ≡ refused_with w.agent (suc n)) × (t' ≡ t) × (store' ≡ w.store)
-  refused_same n e =
-      let is : refusal_in t w k m ≡ suc n = sym answer_says ∙ e in
-      (d.says ∙ rw is, d.words ∙ words_refused t w k m n is, d.stores ∙ ap (λ (s : Said). s.world.store) (said_refused t w k m n is))
+  pub refused_same : (q : Refusal) → refused_by r.answer ≡ Some q → (r ≡ refused_with w.agent q) × (t' ≡ t) × (store' ≡ w.store)
+  refused_same q e =
+      let is : refusal_in t w k m ≡ Some q = sym answer_says ∙ e in
+      (d.says ∙ rw is, d.words ∙ words_refused t w k m q is, d.stores ∙ ap (λ (s : Said). s.world.store) (said_refused t w k m q is))
 
 -- ---- peers, so many, among the first n of which an address is or isn't
 

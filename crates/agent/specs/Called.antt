@@ -1,19 +1,18 @@
 -- What a call's function answers, in the terms of the model at its own call: behind the test of the state, for all that it isn't handed.
-use Rattle.std.specs.Prelude.{ℕ, zero, suc, ◌^◌, ◌≡◌, Bool, false, cond, not, ◌||◌, List, ltb, length, set}
-use Rattle.std.proofs.Math.Option.{Option, none, some}
+use Rattle.model.specs.declared.Refusal.{Refusal}
+use Rattle.model.specs.declared.Refusal.TheVariants.{Clock, PeersFull, NoStats}
+use Rattle.std.specs.Prelude.{ℕ, ◌+◌, ◌^◌, ◌≡◌, Bool, false, cond, not, ◌||◌, List, leb, ltb, length, set, Option, None, Some, Result, Ok, Err}
 use Rattle.address.specs.declared.Address.{Address}
+use Rattle.message.specs.declared.TransactionId.{TransactionId}
 use Rattle.waits.specs.Waits.{within_limits}
 use Rattle.waits.specs.declared.Transport.{Transport}
 use Rattle.rows.specs.Lists.{insert_at, remove_at}
 use Rattle.rows.specs.Rows.{rows}
 use Rattle.stats.specs.declared.StunAgentStats.{StunAgentStats}
-use Rattle.stats.specs.declared.Rtt.{Rtt}
-use Rattle.stats.specs.declared.Rtt.TheVariants as rtt
 use Rattle.stats.specs.declared.Event.{Event}
 use Rattle.stats.specs.declared.Event.TheVariants as event
 use Rattle.request.specs.Times.{rtt_of}
 use Rattle.request.specs.Limits.{RequestLimits}
-use Rattle.request.specs.Request.{silenced, cancelled, configured}
 use Rattle.request.specs.declared.StunRequestState.{StunRequestState}
 use Rattle.requests.specs.Search as Search
 use Rattle.requests.specs.Search.{key_of}
@@ -21,42 +20,45 @@ use Rattle.records.specs.Coding.{width, encode}
 use Rattle.records.specs.Live.{live, Became}
 use Rattle.table.specs.Table.{walk_rows}
 use Rattle.model.specs.World.{World, known}
-use Rattle.model.specs.Calls.{Kind, wish_settings, on_some}
+use Rattle.model.specs.Calls.{Kind, Wish, names, wish_settings, on_some}
 use Rattle.model.specs.Calls as model
 use Rattle.model.specs.Accepts.{new_peer}
 use Rattle.model.specs.Refusals.{refusal_past}
-use Rattle.model.specs.Effects.{Change, keeps, adds, removes, sets, steps, changed, count_after, change_of, stored_by, answer_of, event_of, after}
+use Rattle.model.specs.Effects.{Change, keeps, adds, removes, sets, steps, changed, count_after, change_of, stored_by, wished, wish_answer, answer_of, event_of, after}
 use Rattle.model.specs.declared.StunAgent.{StunAgent}
 use Rattle.model.specs.declared.Answer.{Answer}
 use Rattle.model.specs.declared.Answer.TheVariants as answer
 use Rattle.agent.specs.Ready.{world_with, world_of}
 use Rattle.agent.specs.declared.Called.{Called}
-use Rattle.agent.specs.declared.Wish.{Wish}
-use Rattle.agent.specs.declared.Wish.TheVariants.{Silence, Cancel, Configure}
-use Rattle.agent.specs.declared.Place.{Place}
-use Rattle.agent.specs.declared.Place.TheVariants.{Nowhere}
-use Rattle.agent.specs.declared.Place.TheVariants as place
-use Rattle.agent.specs.declared.Clock.{Clock}
-use Rattle.agent.specs.declared.Clock.TheVariants.{At, Absent}
+use Rattle.agent.specs.declared.Contact.{Contact}
 
-abbrev pub called_of : StunAgent → Answer → Event → Place → Called
+abbrev pub called_of : StunAgent → Answer → Event → Option ℕ → Called
 called_of a x e p = record { agent = a; answer = x; event = e; place = p }
 
 -- A refused call: nothing changes, nothing is counted.
-abbrev pub refused_with : StunAgent → ℕ → Called
-refused_with a n = called_of a (answer.Refused n) event.Nothing Nowhere
+abbrev pub refused_with : StunAgent → Refusal → Called
+refused_with a q = called_of a (answer.Refused q) event.Nothing None
 
-abbrev pub tried : ℕ → StunAgent → Called → Called
-tried zero a done = done
-tried (suc n) a done = refused_with a (suc n)
+-- What a call leaves that answers this or is refused.
+abbrev pub settled : StunAgent → Result Called Refusal → Called
+settled a (Ok r) = r
+settled a (Err q) = refused_with a q
+
+abbrev pub tried : Option Refusal → StunAgent → Called → Called
+tried None a done = done
+tried (Some q) a done = refused_with a q
 
 -- "Statistics are optional": the event where they are on.
 abbrev pub noted : StunAgent → Event → Event
 noted a e = cond a.stats e event.Nothing
 
+-- Refusal 11: the record, if statistics are on.
+abbrev pub counted : StunAgent → StunAgentStats → Result StunAgentStats Refusal
+counted a st = cond a.stats (Ok st) (Err NoStats)
+
 -- "A new peer goes behind the last one."
-abbrev pub place_of : World → Kind → List ℕ → Place
-place_of w k m = on_some (new_peer w k m) Nowhere (λ a. place.At w.agent.peers)
+abbrev pub place_of : World → Kind → List ℕ → Option ℕ
+place_of w k m = on_some (new_peer w k m) None (λ a. Some w.agent.peers)
 
 -- The model at one call, behind the test of the state.
 abbrev pub effect : ℕ → World → Kind → List ℕ → Called
@@ -105,9 +107,9 @@ abbrev pub TableAfter : Transport → Change → ℕ → List ℕ → List ℕ �
 TableAfter tr c n t t' = Became t t' (count_after c n) (rows_after tr c n t) (changed tr c (live n t))
 
 -- A refused call changes no request.
-abbrev pub unless : ℕ → Change → Change
-unless zero c = c
-unless (suc n) c = keeps
+abbrev pub unless : Option Refusal → Change → Change
+unless None c = c
+unless (Some q) c = keeps
 
 unfoldable pub change_past : ℕ → World → Kind → List ℕ → Change
 change_past rows w k m = unless (refusal_past rows w k m) (change_of rows w k m)
@@ -126,38 +128,48 @@ Turning a k t t' r = (store m : List ℕ) (peers : List Address) (st : StunAgent
 abbrev pub is_late : StunAgent → ℕ → Bool
 is_late a now = ltb (2 ^ 60) now || ltb now a.mark
 
--- What is to be changed in a request, in the model's words.
-abbrev pub wish_of : Wish → model.Wish
-wish_of Silence = model.silence
-wish_of Cancel = model.cancel
-wish_of (Configure rto) = model.configure rto
+-- The agent with another clock mark and other numbers of requests and peers.
+abbrev pub moved : StunAgent → ℕ → ℕ → ℕ → StunAgent
+moved a mark requests peers = record { transport = a.transport; stats = a.stats; rto = a.rto; mark = mark; requests = requests; peers = peers }
 
-abbrev pub is_unfit : Wish → Bool
-is_unfit wish = on_some (wish_settings (wish_of wish)) false (λ rto. not (within_limits rto))
+-- The agent at the clock, if it isn't refused.
+unfoldable pub at_clock : StunAgent → ℕ → Result StunAgent Refusal
+at_clock a now = cond (is_late a now) (Err Clock) (Ok (moved a now a.requests a.peers))
 
-abbrev pub altered : Wish → StunRequestState → StunRequestState
-altered Silence r = silenced r
-altered Cancel r = cancelled r
-altered (Configure rto) r = configured rto r
+-- A wish that changes the request as a function may: its settings are within limits, and that is the record that it asks for.
+pub record Alters (wish : Wish) (may : StunRequestState → StunRequestState → Type 0) : Type 0 where
+  pub fits : on_some (wish_settings wish) false (λ rto. not (within_limits rto)) ≡ false
+  pub answers : (q : StunRequestState) → wish_answer wish q ≡ answer.Ok
+  pub alters : (i : ℕ) (q p : StunRequestState) → may q p → wished wish i q ≡ sets i p
+
+-- Whichever wish that is; a function that is none of the wishes is promised nothing, and `agent` passes none such.
+abbrev pub Changing : StunAgent → TransactionId → (StunRequestState → StunRequestState → Type 0) → List ℕ → List ℕ → Result Called Refusal → Type 0
+Changing a id may t t' r = (wish : Wish) → Alters wish may → Turning a (names id wish) t t' (settled a r)
+
+-- Refusal 10, or the agent with the address among its peers, and its place there if it is new.
+unfoldable pub admitted : Contact → StunAgent → Result (StunAgent × Option ℕ) Refusal
+admitted x a =
+    cond x.known (Ok (a, None))
+    (cond (leb x.places a.peers) (Err PeersFull) (Ok (moved a a.mark a.requests (a.peers + 1), Some a.peers)))
 
 -- A clock, if there is one: refusal 3, the mark afterwards, and the round trip.
-abbrev pub option_of : Clock → Option ℕ
-option_of (At now) = some now
-option_of Absent = none
+abbrev pub is_past : StunAgent → Option ℕ → Bool
+is_past a clock = on_some clock false (λ now. is_late a now)
 
-abbrev pub is_past : StunAgent → Clock → Bool
-is_past a clock = on_some (option_of clock) false (λ now. is_late a now)
+abbrev pub mark_by : StunAgent → Option ℕ → ℕ
+mark_by a clock = on_some clock a.mark (λ now. now)
 
-abbrev pub mark_by : StunAgent → Clock → ℕ
-mark_by a clock = on_some (option_of clock) a.mark (λ now. now)
+-- The agent at the clock of a received message.
+unfoldable pub on_receipt : StunAgent → Option ℕ → Result StunAgent Refusal
+on_receipt a clock = cond (is_past a clock) (Err Clock) (Ok (moved a (mark_by a clock) a.requests a.peers))
 
-abbrev pub rtt_by : Clock → StunRequestState → Rtt
-rtt_by clock r = on_some (option_of clock) rtt.Absent (λ now. rtt_of now r)
+abbrev pub rtt_by : Option ℕ → StunRequestState → Option ℕ
+rtt_by clock r = on_some clock None (λ now. rtt_of now r)
 
 -- The request was last sent no later than that clock.
-abbrev pub Timely : Clock → StunRequestState → Type 0
-Timely (At now) r = RequestLimits 32 now r
-Timely Absent r = Unit
+abbrev pub Timely : Option ℕ → StunRequestState → Type 0
+Timely (Some now) r = RequestLimits 32 now r
+Timely None r = Unit
 
 -- A received message, where there are so many places for peers, and it is known whether the sender is one.
 abbrev pub Receiving : StunAgent → Address → Bool → ℕ → Option ℕ → List ℕ → List ℕ → List ℕ → Called → Type 0

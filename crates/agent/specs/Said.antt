@@ -1,5 +1,7 @@
 -- The model's promise for an agent and what the host lends it: refusal, answer, world and every word of the table after a call.
-use Rattle.std.specs.Prelude.{ℕ, zero, suc, ◌≡◌, Bool, cond, List, leb, length}
+use Rattle.model.specs.declared.Refusal.TheVariants.{State}
+use Rattle.model.specs.declared.Refusal.{Refusal}
+use Rattle.std.specs.Prelude.{ℕ, None, Some, Option, ◌≡◌, Bool, cond, List, leb, length, Option, Some}
 use Rattle.address.specs.declared.Address.{Address}
 use Rattle.address.specs.declared.Host.TheVariants.{V4}
 use Rattle.rows.specs.Rows.{with_rows}
@@ -18,16 +20,16 @@ use Rattle.agent.specs.Called.{tried, effect, rows_after}
 use Rattle.agent.specs.declared.Called.{Called}
 
 -- The model's refusal; a table that hasn't all its rows is "a state not well formed".
-unfoldable pub refusal_in : List ℕ → World → Kind → List ℕ → ℕ
-refusal_in t w k m = cond (leb size (length t)) (refusal_of 32 w k m) 1
+unfoldable pub refusal_in : List ℕ → World → Kind → List ℕ → Option Refusal
+refusal_in t w k m = cond (leb size (length t)) (refusal_of 32 w k m) (Some State)
 
 -- The model's answer and world.
 unfoldable pub said_in : List ℕ → World → Kind → List ℕ → Said
 said_in t w k m = decided (refusal_in t w k m) w (record { answer = answer_of 32 w k m; world = after 32 w k m })
 
-abbrev pub unless_refused : ℕ → List ℕ → List ℕ → List ℕ
-unless_refused zero t t' = t'
-unless_refused (suc n) t t' = t
+abbrev pub unless_refused : Option Refusal → List ℕ → List ℕ → List ℕ
+unless_refused None t t' = t'
+unless_refused (Some q) t t' = t
 
 -- Every word of the table: the rows of the requests, and behind them what was there.
 unfoldable pub words_in : List ℕ → World → Kind → List ℕ → List ℕ

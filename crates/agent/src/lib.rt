@@ -6,26 +6,28 @@
 // Rust's methods are functions here.
 #![tactic(auto)]
 
-ghost use Rattle.std.specs.Prelude.{◌≡◌, ◌+◌, false, cond, not, ◌&&◌, leb};
+ghost use Rattle.std.specs.Prelude.{◌≡◌, None, Some};
 ghost use Rattle.model.specs.Calls.{ask, validate, numbers, mean, unsettled, anew, carries, scans, names, meets, counts, sends, transmits, reports, silence, cancel, configure, query, short_form};
-ghost use Rattle.std.proofs.Math.Option.{none, some};
 ghost use Rattle.model.specs.Accepts.{is_response};
 ghost use Rattle.model.specs.Effects.{sent_as, received_as, handed_out};
 ghost use Rattle.model.specs.Refusals.{is_request};
 ghost use Rattle.model.specs.Fresh.{unset, build_of};
 ghost use Rattle.agent.specs.Ready.{ready, Lent, HandsOut};
-ghost use Rattle.agent.specs.Called.{called_of, refused_with, noted, is_late, is_unfit, wish_of, altered, option_of, is_past, mark_by, rtt_by, Timely, Everywhere, Counting, Meeting, Carrying, Looking, Turning, Submitting, Receiving};
+ghost use Rattle.agent.specs.Called.{called_of, counted, refused_with, settled, noted, at_clock, on_receipt, rtt_by, Timely, Everywhere, Counting, Meeting, Carrying, Looking, Turning, Changing, Submitting, Receiving};
 ghost use Rattle.agent.specs.Said.{nowhere, address_in, Dispatched};
 
 use address::{Address, Host};
-use message::{Message, MessageClass, Parsed, TransactionId};
-use model::{Answer, Built, Call, StunAgent, StunAgentBuilder};
+use message::{Message, MessageClass, TransactionId};
+use model::{Answer, Call, Refusal, StunAgent, StunAgentBuilder};
 use records::WIDTH;
 use request::StunRequestState;
-use requests::{Found, FreeRow, Polled, Transmitted};
-use stats::{Event, Outstanding, Rtt, StunAgentStats};
+use requests::Polled;
+use stats::{Event, StunAgentStats};
 use store::{ROW, ROWS};
 use waits::{LONGEST, RequestRto, Transport};
+
+// The highest clock that a call may carry.
+const LAST_CLOCK: u64 = 1 << 60;
 
 // ---- a fresh agent
 
@@ -34,14 +36,14 @@ pub fn builder(transport: Transport) -> StunAgentBuilder
     ensures { result ≡ unset transport }
 {
     StunAgentBuilder {
-        transport: transport,
+        transport,
         rto: RequestRto::default(),
         stats: false,
     }
 }
 
 pub fn request_retransmits(
-    mut builder: StunAgentBuilder,
+    builder: StunAgentBuilder,
     initial: u64,
     max: u64,
     retransmits: u32,
@@ -53,77 +55,58 @@ pub fn request_retransmits(
       stats = builder.stats;
     } }
 {
-    let rto = RequestRto {
-        initial: initial,
-        max: max,
-        retransmits: retransmits,
-        last_retransmit: last_retransmit,
-    };
-    builder.rto = rto;
-    builder
+    StunAgentBuilder {
+        rto: RequestRto {
+            initial,
+            max,
+            retransmits,
+            last_retransmit,
+        },
+        ..builder
+    }
 }
 
-pub fn stats(mut builder: StunAgentBuilder, stats: bool) -> StunAgentBuilder
+pub fn stats(builder: StunAgentBuilder, stats: bool) -> StunAgentBuilder
     ensures { result ≡ record { transport = builder.transport; rto = builder.rto; stats = stats } }
 {
-    builder.stats = stats;
-    builder
+    StunAgentBuilder { stats, ..builder }
 }
 
-pub fn build(builder: StunAgentBuilder) -> Built
+#[tactic(auto, unfolding(model::specs::Fresh::build_of))]
+pub fn build(builder: StunAgentBuilder) -> Result<(StunAgent, Event), Refusal>
     ensures { result ≡ build_of builder }
 {
-    let rto = builder.rto;
-    if !rto.within_limits() {
-        return Built::Refused(2);
+    if !builder.rto.within_limits() {
+        return Err(Refusal::Settings);
     }
-    let transport = builder.transport;
     let agent = StunAgent {
-        transport: transport,
+        transport: builder.transport,
         stats: builder.stats,
-        rto: rto,
+        rto: builder.rto,
         mark: 0,
         requests: 0,
         peers: 0,
     };
-    if builder.stats {
-        return Built::Fresh {
-            agent: agent,
-            event: Event::Reset,
-        };
-    }
-    Built::Fresh {
-        agent: agent,
-        event: Event::Nothing,
-    }
+    Ok((agent, event_of(agent, Event::Reset)))
 }
 
 // ---- the state
 
 // Whether a call may start from this state: what refusal 1 tests. A table shorter than its rows is no state that is well formed.
+#[tactic(auto, unfolding(crate::specs::Ready::ready))]
 fn is_ready(agent: StunAgent, places: usize, table: &[u64], store: &[u8]) -> bool
     ensures { result ≡ ready agent places table.now store.now }
 {
-    if table.len() < ROWS * WIDTH {
-        return false;
-    }
-    if store.len() < ROWS * ROW {
-        return false;
-    }
-    if places < agent.peers {
-        return false;
-    }
-    if agent.mark > 1152921504606846976 {
-        return false;
-    }
-    let rto = agent.rto;
-    if !rto.within_limits() {
-        return false;
-    }
-    formed::is_formed(table, agent.requests, agent.mark)
+    table.len() >= ROWS * WIDTH
+        && store.len() >= ROWS * ROW
+        && agent.peers <= places
+        && agent.mark <= LAST_CLOCK
+        && agent.rto.within_limits()
+        && formed::is_formed(table, agent.requests, agent.mark)
 }
 
 // The bytes of a transmission, as a part of the store and no copy.
+#[tactic(auto, using(crate::proofs::Ready::handed))]
 pub fn transmission<'a>(
     agent: StunAgent,
     places: usize,
@@ -134,10 +117,7 @@ pub fn transmission<'a>(
 ) -> &'a [u8]
     ensures { HandsOut agent places table.now store.now row len result.now }
 {
-    if !is_ready(agent, places, table, store) {
-        return &store[..0];
-    }
-    if !formed::in_use(table, agent.requests, row, len) {
+    if !is_ready(agent, places, table, store) || !formed::in_use(table, agent.requests, row, len) {
         return &store[..0];
     }
     store::part(store, row, len)
@@ -145,119 +125,123 @@ pub fn transmission<'a>(
 
 // ---- the calls
 
-// Where a new peer goes in the lent list.
-#[derive(Clone, Copy)]
-pub enum Place {
-    At(usize),
-    Nowhere,
-}
-
-// What a call leaves: the agent, its answer, the event to count, and where the call's address goes.
-#[derive(Clone, Copy)]
+// What a call leaves: the agent, its answer, the event to count, and where in the lent list the call's address goes as a new peer.
+#[derive(Clone, Copy, Debug, PartialEq, Eq)]
 pub struct Called {
     pub agent: StunAgent,
     pub answer: Answer,
     pub event: Event,
-    pub place: Place,
+    pub place: Option<usize>,
 }
 
-fn done(agent: StunAgent, answer: Answer, event: Event, place: Place) -> Called
-    ensures { result ≡ called_of agent answer event place }
+// The event counts where statistics are on.
+fn done(agent: StunAgent, answer: Answer, event: Event, place: Option<usize>) -> Called
+    ensures { result ≡ called_of agent answer (noted agent event) place }
 {
     Called {
-        agent: agent,
-        answer: answer,
-        event: event,
-        place: place,
+        agent,
+        answer,
+        event: event_of(agent, event),
+        place,
     }
 }
 
 // A call that changes nothing.
-fn refused(agent: StunAgent, number: u64) -> Called
-    ensures { result ≡ refused_with agent number }
+fn refused(agent: StunAgent, refusal: Refusal) -> Called
+    ensures { result ≡ refused_with agent refusal }
 {
-    done(
-        agent,
-        Answer::Refused(number),
-        Event::Nothing,
-        Place::Nowhere,
-    )
+    done(agent, Answer::Refused(refusal), Event::Nothing, None)
 }
 
-fn is_validated_peer(agent: StunAgent, addr: Address, known: bool, places: usize) -> Called
-    ensures { Meeting agent addr known places (meets addr ask) result }
-{
-    if known {
-        return done(agent, Answer::Yes, Event::Nothing, Place::Nowhere);
-    }
-    done(agent, Answer::No, Event::Nothing, Place::Nowhere)
+// What is known of the address that a call carries: whether it is a peer, and how many places the lent list has.
+#[derive(Clone, Copy, Debug, PartialEq, Eq)]
+struct Contact {
+    known: bool,
+    places: usize,
 }
 
-fn validated_peer(agent: StunAgent, addr: Address, known: bool, places: usize) -> Called
-    ensures { Meeting agent addr known places (meets addr validate) result }
+impl Contact {
+    ghost use Rattle.agent.specs.Called.{admitted};
+
+    // The agent with this address among its peers, and the place of a new one: refusal 10.
+    #[tactic(auto, unfolding(crate::specs::Called::admitted))]
+    fn admitted(self, agent: StunAgent) -> Result<(StunAgent, Option<usize>), Refusal>
+        ensures { result ≡ admitted self agent }
+    {
+        if self.known {
+            return Ok((agent, None));
+        }
+        if self.places <= agent.peers {
+            return Err(Refusal::PeersFull);
+        }
+        let next = StunAgent {
+            peers: agent.peers + 1,
+            ..agent
+        };
+        Ok((next, Some(agent.peers)))
+    }
+}
+
+fn is_validated_peer(agent: StunAgent, addr: Address, contact: Contact) -> Called
+    ensures { Meeting agent addr contact.known contact.places (meets addr ask) result }
 {
-    if known {
-        return done(agent, Answer::Ok, Event::Nothing, Place::Nowhere);
+    if contact.known {
+        return done(agent, Answer::Yes, Event::Nothing, None);
     }
-    let n = agent.peers;
-    if places <= n {
-        return refused(agent, 10);
+    done(agent, Answer::No, Event::Nothing, None)
+}
+
+#[tactic(auto, using(crate::proofs::Calls::meets_full, crate::proofs::Calls::meets_new))]
+fn validated_peer(agent: StunAgent, addr: Address, contact: Contact) -> Result<Called, Refusal>
+    ensures { Meeting agent addr contact.known contact.places (meets addr validate) (settled agent result) }
+{
+    let (next, place) = contact.admitted(agent)?;
+    Ok(done(next, Answer::Ok, Event::Nothing, place))
+}
+
+// The record where statistics are on: refusal 11.
+fn counted(agent: StunAgent, was: StunAgentStats) -> Result<StunAgentStats, Refusal>
+    ensures { result ≡ counted agent was }
+{
+    if !agent.stats {
+        return Err(Refusal::NoStats);
     }
-    let mut next = agent;
-    next.peers = n + 1;
-    done(next, Answer::Ok, Event::Nothing, Place::At(n))
+    Ok(was)
 }
 
 // `StunAgent::stats`
-fn read_stats(agent: StunAgent, was: StunAgentStats) -> Called
-    ensures { Counting agent was (counts numbers) result }
+#[tactic(auto, using(crate::proofs::Calls::counts_on, crate::proofs::Calls::counts_off))]
+fn read_stats(agent: StunAgent, was: StunAgentStats) -> Result<Called, Refusal>
+    ensures { Counting agent was (counts numbers) (settled agent result) }
 {
-    if agent.stats {
-        return done(agent, Answer::Stats(was), Event::Nothing, Place::Nowhere);
-    }
-    refused(agent, 11)
+    let answer = Answer::Stats(counted(agent, was)?);
+    Ok(done(agent, answer, Event::Nothing, None))
 }
 
-fn rtt_average(agent: StunAgent, was: StunAgentStats) -> Called
-    ensures { Counting agent was (counts mean) result }
+#[tactic(auto, using(crate::proofs::Calls::counts_mean, crate::proofs::Calls::counts_off))]
+fn rtt_average(agent: StunAgent, was: StunAgentStats) -> Result<Called, Refusal>
+    ensures { Counting agent was (counts mean) (settled agent result) }
 {
-    if agent.stats {
-        let average = was.rtt_average();
-        return done(
-            agent,
-            Answer::Average(average),
-            Event::Nothing,
-            Place::Nowhere,
-        );
-    }
-    refused(agent, 11)
+    let answer = Answer::Average(counted(agent, was)?.rtt_average());
+    Ok(done(agent, answer, Event::Nothing, None))
 }
 
-fn outstanding_requests(agent: StunAgent, was: StunAgentStats) -> Called
-    ensures { Counting agent was (counts unsettled) result }
+#[tactic(auto, using(crate::proofs::Calls::counts_settled, crate::proofs::Calls::counts_unsettled, crate::proofs::Calls::counts_off))]
+fn outstanding_requests(agent: StunAgent, was: StunAgentStats) -> Result<Called, Refusal>
+    ensures { Counting agent was (counts unsettled) (settled agent result) }
 {
-    if agent.stats {
-        match was.outstanding_requests() {
-            Outstanding::Count(n) => done(
-                agent,
-                Answer::Outstanding(n),
-                Event::Nothing,
-                Place::Nowhere,
-            ),
-            Outstanding::BelowZero => refused(agent, 12),
-        }
-    } else {
-        refused(agent, 11)
-    }
+    let n = counted(agent, was)?
+        .outstanding_requests()
+        .ok_or(Refusal::Counts)?;
+    Ok(done(agent, Answer::Outstanding(n), Event::Nothing, None))
 }
 
-fn reset(agent: StunAgent) -> Called
-    ensures { Everywhere agent (counts anew) result }
+#[tactic(auto, using(crate::proofs::Calls::counts_on, crate::proofs::Calls::counts_off))]
+fn reset(agent: StunAgent, was: StunAgentStats) -> Result<Called, Refusal>
+    ensures { Everywhere agent (counts anew) (settled agent result) }
 {
-    if agent.stats {
-        return done(agent, Answer::Ok, Event::Reset, Place::Nowhere);
-    }
-    refused(agent, 11)
+    counted(agent, was)?;
+    Ok(done(agent, Answer::Ok, Event::Reset, None))
 }
 
 // The event, where statistics are on.
@@ -267,21 +251,10 @@ fn event_of(agent: StunAgent, event: Event) -> Event
     if agent.stats { event } else { Event::Nothing }
 }
 
-fn wide(n: usize) -> u64
-    ensures { result ≡ n }
-{
-    n as u64
-}
-
 fn is_request(class: MessageClass) -> bool
     ensures { result ≡ is_request class }
 {
-    match class {
-        MessageClass::Request => true,
-        MessageClass::Indication => false,
-        MessageClass::Success => false,
-        MessageClass::Error => false,
-    }
+    class == MessageClass::Request
 }
 
 fn sent_as(n: u64, class: MessageClass) -> Event
@@ -290,117 +263,77 @@ fn sent_as(n: u64, class: MessageClass) -> Event
     match class {
         MessageClass::Request => Event::Nothing,
         MessageClass::Indication => Event::IndicationSent(n),
-        MessageClass::Success => Event::ResponseSent(n),
-        MessageClass::Error => Event::ResponseSent(n),
+        MessageClass::Success | MessageClass::Error => Event::ResponseSent(n),
     }
 }
 
-fn send(agent: StunAgent, to: Address, message: &[u8]) -> Called
-    ensures { Carrying agent (carries (sends to)) message.now result }
+#[tactic(auto, using(crate::proofs::Sends::sends_bad, crate::proofs::Sends::sends_request, crate::proofs::Sends::sends_other))]
+fn send(agent: StunAgent, to: Address, message: &[u8]) -> Result<Called, Refusal>
+    ensures { Carrying agent (carries (sends to)) message.now (settled agent result) }
 {
-    let Parsed::Good(x) = Message::from_bytes(message) else {
-        return refused(agent, 5);
-    };
-    let class = x.class;
-    if is_request(class) {
-        return refused(agent, 6);
+    let x = Message::from_bytes(message).ok_or(Refusal::BadMessage)?;
+    if is_request(x.class) {
+        return Err(Refusal::WrongClass);
     }
-    let event = event_of(agent, sent_as(wide(message.len()), class));
-    done(agent, Answer::Ok, event, Place::Nowhere)
+    let event = sent_as(message.len() as u64, x.class);
+    Ok(done(agent, Answer::Ok, event, None))
 }
 
 // ---- the calls over the table: one request
 
-fn request_transaction(agent: StunAgent, table: &[u64], id: TransactionId) -> Called
+// Agent and table stay two parameters. A struct of both was tried: by value the borrow checker doesn't cover it, and by `&mut` its
+// invariant stayed open after each change of the table or of the count.
+
+#[tactic(auto, using(crate::proofs::Table::searchable, crate::proofs::Named::looks_found, crate::proofs::Named::looks_none))]
+fn request_transaction(
+    agent: StunAgent,
+    table: &[u64],
+    id: TransactionId,
+) -> Result<Called, Refusal>
     requires { Lent agent table.now }
-    ensures { Looking agent table.now (names id query) result }
+    ensures { Looking agent table.now (names id query) (settled agent result) }
 {
-    match table::find(table, agent.requests, id) {
-        Found::At {
-            place: _,
-            request: q,
-        } => {
-            let to = q.to;
-            let integrity = q.request_integrity;
-            done(
-                agent,
-                Answer::Request {
-                    to: to,
-                    integrity: integrity,
-                },
-                Event::Nothing,
-                Place::Nowhere,
-            )
-        }
-        Found::Nothing => refused(agent, 9),
-    }
-}
-
-// What is to be changed in a request.
-#[derive(Clone, Copy)]
-enum Wish {
-    Silence,
-    Cancel,
-    Configure(RequestRto),
-}
-
-impl Wish {
-    // Whether it carries settings past their limits.
-    fn is_unfit(self) -> bool
-        ensures { result ≡ is_unfit self }
-    {
-        match self {
-            Wish::Silence => false,
-            Wish::Cancel => false,
-            Wish::Configure(rto) => !rto.within_limits(),
-        }
-    }
-
-    fn alter(self, request: StunRequestState) -> StunRequestState
-        ensures { result ≡ altered self request }
-    {
-        match self {
-            Wish::Silence => request.cancel_retransmissions(),
-            Wish::Cancel => request.cancel(),
-            Wish::Configure(rto) => request.configure_timeout_with_max(rto),
-        }
-    }
+    let (_, q) = table::find(table, agent.requests, id).ok_or(Refusal::NoRequest)?;
+    let answer = Answer::Request {
+        to: q.to,
+        integrity: q.request_integrity,
+    };
+    Ok(done(agent, answer, Event::Nothing, None))
 }
 
 // The calls that change one request.
-fn change(agent: StunAgent, table: &mut [u64], id: TransactionId, wish: Wish) -> Called
-    requires { Lent agent table.old }
-    ensures { Turning agent (names id (wish_of wish)) table.old table.new result }
+#[tactic(auto, using(crate::proofs::Table::searchable, crate::proofs::Table::found_place))]
+fn change<F: FnOnce(StunRequestState) -> StunRequestState>(
+    agent: StunAgent,
+    table: &mut [u64],
+    id: TransactionId,
+    alter: F,
+) -> Result<Called, Refusal>
+    requires lent { Lent agent table.old }
+    requires callable { F.IsAlwaysCallable alter }
+    ensures { Changing agent id (F.post alter) table.old table.new result }
 {
-    if wish.is_unfit() {
-        return refused(agent, 2);
-    }
-    let n = agent.requests;
-    match table::find(table, n, id) {
-        Found::At {
-            place: at,
-            request: q,
-        } => {
-            let p = wish.alter(q);
-            table::replace(table, n, at, p);
-            done(agent, Answer::Ok, Event::Nothing, Place::Nowhere)
-        }
-        Found::Nothing => refused(agent, 9),
-    }
+    let (at, q) = table::find(table, agent.requests, id).ok_or(Refusal::NoRequest)?;
+    table::replace(table, agent.requests, at, alter(q));
+    Ok(done(agent, Answer::Ok, Event::Nothing, None))
 }
 
-fn cancel_retransmissions(agent: StunAgent, table: &mut [u64], id: TransactionId) -> Called
+fn cancel_retransmissions(
+    agent: StunAgent,
+    table: &mut [u64],
+    id: TransactionId,
+) -> Result<Called, Refusal>
     requires { Lent agent table.old }
-    ensures { Turning agent (names id silence) table.old table.new result }
+    ensures { Turning agent (names id silence) table.old table.new (settled agent result) }
 {
-    change(agent, table, id, Wish::Silence)
+    change(agent, table, id, |q| q.cancel_retransmissions())
 }
 
-fn cancel(agent: StunAgent, table: &mut [u64], id: TransactionId) -> Called
+fn cancel(agent: StunAgent, table: &mut [u64], id: TransactionId) -> Result<Called, Refusal>
     requires { Lent agent table.old }
-    ensures { Turning agent (names id cancel) table.old table.new result }
+    ensures { Turning agent (names id cancel) table.old table.new (settled agent result) }
 {
-    change(agent, table, id, Wish::Cancel)
+    change(agent, table, id, |q| q.cancel())
 }
 
 fn configure_timeout_with_max(
@@ -408,11 +341,14 @@ fn configure_timeout_with_max(
     table: &mut [u64],
     id: TransactionId,
     rto: RequestRto,
-) -> Called
+) -> Result<Called, Refusal>
     requires { Lent agent table.old }
-    ensures { Turning agent (names id (configure rto)) table.old table.new result }
+    ensures { Turning agent (names id (configure rto)) table.old table.new (settled agent result) }
 {
-    change(agent, table, id, Wish::Configure(rto))
+    if !rto.within_limits() {
+        return Err(Refusal::Settings);
+    }
+    change(agent, table, id, |q| q.configure_timeout_with_max(rto))
 }
 
 fn configure_timeout(
@@ -422,96 +358,88 @@ fn configure_timeout(
     initial: u64,
     retransmits: u32,
     last_retransmit: u64,
-) -> Called
+) -> Result<Called, Refusal>
     requires { Lent agent table.old }
-    ensures { Turning agent (names id (configure (short_form initial retransmits last_retransmit))) table.old table.new result }
+    ensures { Turning agent (names id (configure (short_form initial retransmits last_retransmit))) table.old table.new (settled agent result) }
 {
     let rto = RequestRto {
-        initial: initial,
+        initial,
         max: LONGEST,
-        retransmits: retransmits,
-        last_retransmit: last_retransmit,
+        retransmits,
+        last_retransmit,
     };
-    change(agent, table, id, Wish::Configure(rto))
+    configure_timeout_with_max(agent, table, id, rto)
 }
 
 // ---- the calls over the table: the passing of time
 
-// Refusal 3.
-fn is_late(agent: StunAgent, now: u64) -> bool
-    ensures { result ≡ is_late agent now }
+// The agent at a clock: refusal 3.
+#[tactic(auto, unfolding(crate::specs::Called::at_clock))]
+fn at_clock(agent: StunAgent, clock: u64) -> Result<StunAgent, Refusal>
+    ensures { result ≡ at_clock agent clock }
 {
-    if now > 1152921504606846976 {
-        return true;
+    if clock > LAST_CLOCK || clock < agent.mark {
+        return Err(Refusal::Clock);
     }
-    now < agent.mark
+    Ok(StunAgent {
+        mark: clock,
+        ..agent
+    })
 }
 
 // The Rust's `Transmit`.
 fn handed_out(request: StunRequestState) -> Answer
     ensures { result ≡ handed_out request }
 {
-    let id = request.transaction_id;
-    let to = request.to;
     Answer::Send {
-        id: id,
-        to: to,
+        id: request.transaction_id,
+        to: request.to,
         row: request.row,
         len: request.len,
     }
 }
 
-fn poll_transmit(agent: StunAgent, table: &mut [u64], clock: u64) -> Called
+#[tactic(auto, using(crate::proofs::Ready::few, crate::proofs::Table::all_within_lem))]
+fn poll_transmit(agent: StunAgent, table: &mut [u64], clock: u64) -> Result<Called, Refusal>
     requires { Lent agent table.old }
-    ensures { Turning agent (scans transmits clock) table.old table.new result }
+    ensures { Turning agent (scans transmits clock) table.old table.new (settled agent result) }
 {
-    if is_late(agent, clock) {
-        return refused(agent, 3);
-    }
-    let transport = agent.transport;
-    let out = table::poll_transmit(table, agent.requests, transport, clock);
-    let mut next = agent;
-    next.mark = clock;
-    match out {
-        Transmitted::Sends(q) => {
-            let event = event_of(agent, Event::RetransmitBytes(wide(q.len)));
-            done(next, handed_out(q), event, Place::Nowhere)
+    let next = at_clock(agent, clock)?;
+    match table::poll_transmit(table, agent.requests, agent.transport, clock) {
+        Some(q) => {
+            let event = Event::RetransmitBytes(q.len as u64);
+            Ok(done(next, handed_out(q), event, None))
         }
-        Transmitted::Quiet => done(next, Answer::None, Event::Nothing, Place::Nowhere),
+        None => Ok(done(next, Answer::None, Event::Nothing, None)),
     }
 }
 
-fn poll(agent: StunAgent, table: &mut [u64], clock: u64) -> Called
+// The arms of a request that ends are alike but for what they report; tried as one behind the match, and the proof didn't close.
+#[tactic(auto, using(crate::proofs::Table::polled))]
+fn poll(agent: StunAgent, table: &mut [u64], clock: u64) -> Result<Called, Refusal>
     requires { Lent agent table.old }
-    ensures { Turning agent (scans reports clock) table.old table.new result }
+    ensures { Turning agent (scans reports clock) table.old table.new (settled agent result) }
 {
-    if is_late(agent, clock) {
-        return refused(agent, 3);
-    }
-    let transport = agent.transport;
-    let n = agent.requests;
-    let mut next = agent;
-    next.mark = clock;
-    match table::poll(table, n, transport, clock) {
-        Polled::TimedOut { place: at, id: id } => {
-            table::remove(table, n, at);
-            next.requests = n - 1;
-            let event = event_of(agent, Event::TimedOut);
-            done(next, Answer::TimedOut(id), event, Place::Nowhere)
+    let mut next = at_clock(agent, clock)?;
+    match table::poll(table, agent.requests, agent.transport, clock) {
+        Polled::TimedOut { place, id } => {
+            table::remove(table, agent.requests, place);
+            next.requests -= 1;
+            Ok(done(next, Answer::TimedOut(id), Event::TimedOut, None))
         }
-        Polled::Cancelled { place: at, id: id } => {
-            table::remove(table, n, at);
-            next.requests = n - 1;
-            let event = event_of(agent, Event::Cancelled);
-            done(next, Answer::Cancelled(id), event, Place::Nowhere)
+        Polled::Cancelled { place, id } => {
+            table::remove(table, agent.requests, place);
+            next.requests -= 1;
+            Ok(done(next, Answer::Cancelled(id), Event::Cancelled, None))
         }
-        Polled::WaitUntil(w) => done(next, Answer::Wait(w), Event::Nothing, Place::Nowhere),
+        Polled::WaitUntil(w) => Ok(done(next, Answer::Wait(w), Event::Nothing, None)),
     }
 }
 
 // ---- the calls over the table: a new request
 
 // "`send_request` stores the bytes and hands out the first transmission itself."
+#[tactic(auto, using(crate::proofs::Table::searchable, crate::proofs::Ready::few, crate::proofs::Table::same_count, crate::proofs::Submits::fewer))]
 fn send_request(
     agent: StunAgent,
     table: &mut [u64],
@@ -519,221 +447,137 @@ fn send_request(
     to: Address,
     clock: u64,
     message: &[u8],
-) -> Called
+) -> Result<Called, Refusal>
     requires { Lent agent table.old }
-    ensures { Submitting agent to clock message.now table.old store.old table.new store.new result }
+    ensures { Submitting agent to clock message.now table.old store.old table.new store.new (settled agent result) }
 {
-    if is_late(agent, clock) {
-        return refused(agent, 3);
-    }
+    let mut next = at_clock(agent, clock)?;
     let len = message.len();
     if len > ROW {
-        return refused(agent, 4);
+        return Err(Refusal::TooLong);
     }
-    let Parsed::Good(x) = Message::from_bytes(message) else {
-        return refused(agent, 5);
-    };
-    let class = x.class;
-    if !is_request(class) {
-        return refused(agent, 6);
+    let x = Message::from_bytes(message).ok_or(Refusal::BadMessage)?;
+    if !is_request(x.class) {
+        return Err(Refusal::WrongClass);
     }
     let n = agent.requests;
     let id = x.transaction_id;
-    let Found::Nothing = table::find(table, n, id) else {
-        return refused(agent, 7);
-    };
+    if table::find(table, n, id).is_some() {
+        return Err(Refusal::InProgress);
+    }
     // 32 requests have all the rows, and fewer leave one free.
-    let FreeRow::Row(row) = formed::free_row(table, n) else {
-        return refused(agent, 8);
-    };
-    let transport = agent.transport;
-    let integrity = x.integrity;
-    let rto = agent.rto;
-    let q = StunRequestState::submitted(transport, clock, id, integrity, row, len, to, rto);
+    let row = formed::free_row(table, n).ok_or(Refusal::TableFull)?;
+    let q = StunRequestState::submitted(
+        agent.transport,
+        clock,
+        id,
+        x.integrity,
+        row,
+        len,
+        to,
+        agent.rto,
+    );
     store::copy(store, row, message);
     let at = table::place(table, n, id);
     table::insert(table, n, at, q);
-    let mut next = agent;
-    next.mark = clock;
-    next.requests = n + 1;
-    let event = event_of(agent, Event::RequestSent(wide(len)));
-    done(next, handed_out(q), event, Place::Nowhere)
+    next.requests += 1;
+    let event = Event::RequestSent(len as u64);
+    Ok(done(next, handed_out(q), event, None))
 }
 
 // ---- received messages
 
-// With a clock or without: the Rust's two handlers.
-#[derive(Clone, Copy)]
-enum Clock {
-    At(u64),
-    Absent,
+// A received message comes with a clock or without.
+#[tactic(auto, unfolding(crate::specs::Called::on_receipt, crate::specs::Called::at_clock))]
+fn on_receipt(agent: StunAgent, clock: Option<u64>) -> Result<StunAgent, Refusal>
+    ensures { result ≡ on_receipt agent clock }
+{
+    match clock {
+        Some(now) => at_clock(agent, now),
+        None => Ok(agent),
+    }
 }
 
-impl Clock {
-    // Refusal 3.
-    fn is_past(self, agent: StunAgent) -> bool
-        ensures { result ≡ is_past agent self }
-    {
-        match self {
-            Clock::At(now) => is_late(agent, now),
-            Clock::Absent => false,
-        }
-    }
-
-    fn mark(self, agent: StunAgent) -> u64
-        ensures { result ≡ mark_by agent self }
-    {
-        match self {
-            Clock::At(now) => now,
-            Clock::Absent => agent.mark,
-        }
-    }
-
-    fn round_trip(self, request: StunRequestState) -> Rtt
-        requires { Timely self request }
-        ensures { result ≡ rtt_by self request }
-    {
-        match self {
-            Clock::At(now) => request.round_trip(now),
-            Clock::Absent => Rtt::Absent,
-        }
-    }
+fn round_trip(clock: Option<u64>, request: StunRequestState) -> Option<u64>
+    requires { Timely clock request }
+    ensures { result ≡ rtt_by clock request }
+{
+    request.round_trip(clock?)
 }
 
 fn is_response(class: MessageClass) -> bool
     ensures { result ≡ is_response class }
 {
-    match class {
-        MessageClass::Request => false,
-        MessageClass::Indication => false,
-        MessageClass::Success => true,
-        MessageClass::Error => true,
-    }
+    matches!(class, MessageClass::Success | MessageClass::Error)
 }
 
-fn received_as(n: u64, rtt: Rtt, class: MessageClass) -> Event
+fn received_as(n: u64, rtt: Option<u64>, class: MessageClass) -> Event
     ensures { result ≡ received_as n rtt class }
 {
     match class {
         MessageClass::Request => Event::RequestReceived(n),
         MessageClass::Indication => Event::IndicationReceived(n),
-        MessageClass::Success => Event::ResponseReceived(n, rtt),
-        MessageClass::Error => Event::ResponseReceived(n, rtt),
+        MessageClass::Success | MessageClass::Error => Event::ResponseReceived(n, rtt),
     }
-}
-
-// Refusal 10 of an address that is to be validated.
-fn is_crowded(agent: StunAgent, known: bool, places: usize) -> bool
-    ensures { result ≡ (not known && leb places agent.peers) }
-{
-    if known {
-        return false;
-    }
-    places <= agent.peers
-}
-
-fn place_of(agent: StunAgent, known: bool) -> Place
-    ensures { result ≡ cond known Place.Nowhere (Place.At agent.peers) }
-{
-    if known {
-        return Place::Nowhere;
-    }
-    let n = agent.peers;
-    Place::At(n)
-}
-
-fn peers_after(agent: StunAgent, known: bool, places: usize) -> usize
-    requires { (not known && leb places agent.peers) ≡ false }
-    ensures { result ≡ cond known agent.peers (agent.peers + 1) }
-{
-    if known {
-        return agent.peers;
-    }
-    agent.peers + 1
 }
 
 // The Rust's function of this name.
+#[tactic(auto, using(crate::proofs::Received::received))]
 fn handle_stun_message_internal(
     agent: StunAgent,
     table: &mut [u64],
     from: Address,
-    clock: Clock,
-    known: bool,
-    places: usize,
+    clock: Option<u64>,
+    contact: Contact,
     message: &[u8],
-) -> Called
+) -> Result<Called, Refusal>
     requires { Lent agent table.old }
-    ensures { Receiving agent from known places (option_of clock) message.now table.old table.new result }
+    ensures { Receiving agent from contact.known contact.places clock message.now table.old table.new (settled agent result) }
 {
-    if clock.is_past(agent) {
-        return refused(agent, 3);
+    let next = on_receipt(agent, clock)?;
+    let x = Message::from_bytes(message).ok_or(Refusal::BadMessage)?;
+    let len = message.len() as u64;
+    if !is_response(x.class) {
+        let (next, place) = contact.admitted(next)?;
+        let event = received_as(len, None, x.class);
+        return Ok(done(next, Answer::Yes, event, place));
     }
-    let Parsed::Good(x) = Message::from_bytes(message) else {
-        return refused(agent, 5);
+    let Some((at, q)) = table::find(table, agent.requests, x.transaction_id) else {
+        return Ok(done(next, Answer::No, Event::Nothing, None));
     };
-    let mut next = agent;
-    next.mark = clock.mark(agent);
-    let crowded = is_crowded(agent, known, places);
-    let place = place_of(agent, known);
-    let n = agent.requests;
-    let len = wide(message.len());
-    let class = x.class;
-    let id = x.transaction_id;
-    if is_response(class) {
-        match table::find(table, n, id) {
-            Found::At {
-                place: at,
-                request: q,
-            } => {
-                if crowded {
-                    return refused(agent, 10);
-                }
-                let rtt = clock.round_trip(q);
-                table::remove(table, n, at);
-                next.requests = n - 1;
-                next.peers = peers_after(agent, known, places);
-                let event = event_of(agent, received_as(len, rtt, class));
-                done(next, Answer::Yes, event, place)
-            }
-            Found::Nothing => done(next, Answer::No, Event::Nothing, Place::Nowhere),
-        }
-    } else {
-        if crowded {
-            return refused(agent, 10);
-        }
-        next.peers = peers_after(agent, known, places);
-        let event = event_of(agent, received_as(len, Rtt::Absent, class));
-        done(next, Answer::Yes, event, place)
-    }
+    let (mut next, place) = contact.admitted(next)?;
+    let event = received_as(len, round_trip(clock, q), x.class);
+    table::remove(table, agent.requests, at);
+    next.requests -= 1;
+    Ok(done(next, Answer::Yes, event, place))
 }
 
+// The Rust's two handlers, by their names; the function above is what they share.
 fn handle_stun_message_with_time(
     agent: StunAgent,
     table: &mut [u64],
     from: Address,
     clock: u64,
-    known: bool,
-    places: usize,
+    contact: Contact,
     message: &[u8],
-) -> Called
+) -> Result<Called, Refusal>
     requires { Lent agent table.old }
-    ensures { Receiving agent from known places (some clock) message.now table.old table.new result }
+    ensures { Receiving agent from contact.known contact.places (Some clock) message.now table.old table.new (settled agent result) }
 {
-    handle_stun_message_internal(agent, table, from, Clock::At(clock), known, places, message)
+    handle_stun_message_internal(agent, table, from, Some(clock), contact, message)
 }
 
 fn handle_stun_message(
     agent: StunAgent,
     table: &mut [u64],
     from: Address,
-    known: bool,
-    places: usize,
+    contact: Contact,
     message: &[u8],
-) -> Called
+) -> Result<Called, Refusal>
     requires { Lent agent table.old }
-    ensures { Receiving agent from known places none message.now table.old table.new result }
+    ensures { Receiving agent from contact.known contact.places None message.now table.old table.new (settled agent result) }
 {
-    handle_stun_message_internal(agent, table, from, Clock::Absent, known, places, message)
+    handle_stun_message_internal(agent, table, from, None, contact, message)
 }
 
 // ---- every call
@@ -752,33 +596,73 @@ pub fn address_of(call: Call) -> Address
     ensures { result ≡ address_in call }
 {
     match call {
-        Call::SendRequest { to, now: _ } => to,
-        Call::Send { to } => to,
-        Call::HandleStunMessageWithTime { from, now: _ } => from,
-        Call::HandleStunMessage { from } => from,
-        Call::PollTransmit { now: _ } => nowhere(),
-        Call::Poll { now: _ } => nowhere(),
-        Call::CancelRetransmissions { id: _ } => nowhere(),
-        Call::Cancel { id: _ } => nowhere(),
+        Call::SendRequest { to, .. } | Call::Send { to } => to,
+        Call::HandleStunMessageWithTime { from, .. } | Call::HandleStunMessage { from } => from,
+        Call::IsValidatedPeer { addr } | Call::ValidatedPeer { addr } => addr,
+        Call::PollTransmit { .. }
+        | Call::Poll { .. }
+        | Call::CancelRetransmissions { .. }
+        | Call::Cancel { .. }
+        | Call::ConfigureTimeout { .. }
+        | Call::ConfigureTimeoutWithMax { .. }
+        | Call::RequestTransaction { .. }
+        | Call::Stats
+        | Call::RttAverage
+        | Call::OutstandingRequests
+        | Call::Reset => nowhere(),
+    }
+}
+
+// Any call, behind the test of the state: one arm each, since the calls differ in what they take.
+#[tactic(auto, using(crate::proofs::Ready::ready_says))]
+fn perform(
+    agent: StunAgent,
+    call: Call,
+    contact: Contact,
+    was: StunAgentStats,
+    message: &[u8],
+    table: &mut [u64],
+    store: &mut [u8],
+) -> Result<Called, Refusal>
+    ensures { Dispatched agent call contact.known contact.places was message.now table.old store.old table.new store.new (settled agent result) }
+{
+    if !is_ready(agent, contact.places, table, store) {
+        return Err(Refusal::State);
+    }
+    match call {
+        Call::SendRequest { to, now } => send_request(agent, table, store, to, now, message),
+        Call::Send { to } => send(agent, to, message),
+        Call::HandleStunMessageWithTime { from, now } => {
+            handle_stun_message_with_time(agent, table, from, now, contact, message)
+        }
+        Call::HandleStunMessage { from } => {
+            handle_stun_message(agent, table, from, contact, message)
+        }
+        Call::PollTransmit { now } => poll_transmit(agent, table, now),
+        Call::Poll { now } => poll(agent, table, now),
+        Call::CancelRetransmissions { id } => cancel_retransmissions(agent, table, id),
+        Call::Cancel { id } => cancel(agent, table, id),
         Call::ConfigureTimeout {
-            id: _,
-            initial: _,
-            retransmits: _,
-            last_retransmit: _,
-        } => nowhere(),
-        Call::ConfigureTimeoutWithMax { id: _, rto: _ } => nowhere(),
-        Call::RequestTransaction { id: _ } => nowhere(),
-        Call::IsValidatedPeer { addr } => addr,
-        Call::ValidatedPeer { addr } => addr,
-        Call::Stats => nowhere(),
-        Call::RttAverage => nowhere(),
-        Call::OutstandingRequests => nowhere(),
-        Call::Reset => nowhere(),
+            id,
+            initial,
+            retransmits,
+            last_retransmit,
+        } => configure_timeout(agent, table, id, initial, retransmits, last_retransmit),
+        Call::ConfigureTimeoutWithMax { id, rto } => {
+            configure_timeout_with_max(agent, table, id, rto)
+        }
+        Call::RequestTransaction { id } => request_transaction(agent, table, id),
+        Call::IsValidatedPeer { addr } => Ok(is_validated_peer(agent, addr, contact)),
+        Call::ValidatedPeer { addr } => validated_peer(agent, addr, contact),
+        Call::Stats => read_stats(agent, was),
+        Call::RttAverage => rtt_average(agent, was),
+        Call::OutstandingRequests => outstanding_requests(agent, was),
+        Call::Reset => reset(agent, was),
     }
 }
 
 // Any call, of an agent and what the host lends, but for the peers and the record: `known` says whether the call's address is a peer,
-// `was` is the record. What is left to do is in the answer: the event to count, and the place of a new peer.
+// `was` is the record. They are parameters of their own, as `entry` has them and docs/STATEMENTS.md names them. What is left to do is in the answer: the event to count, and the place of a new peer.
 pub fn dispatch(
     agent: StunAgent,
     call: Call,
@@ -791,40 +675,14 @@ pub fn dispatch(
 ) -> Called
     ensures { Dispatched agent call known places was message.now table.old store.old table.new store.new result }
 {
-    if is_ready(agent, places, table, store) {
-        match call {
-            Call::SendRequest { to, now: clock } => {
-                send_request(agent, table, store, to, clock, message)
-            }
-            Call::Send { to } => send(agent, to, message),
-            Call::HandleStunMessageWithTime { from, now: clock } => {
-                handle_stun_message_with_time(agent, table, from, clock, known, places, message)
-            }
-            Call::HandleStunMessage { from } => {
-                handle_stun_message(agent, table, from, known, places, message)
-            }
-            Call::PollTransmit { now: clock } => poll_transmit(agent, table, clock),
-            Call::Poll { now: clock } => poll(agent, table, clock),
-            Call::CancelRetransmissions { id } => cancel_retransmissions(agent, table, id),
-            Call::Cancel { id } => cancel(agent, table, id),
-            Call::ConfigureTimeout {
-                id,
-                initial,
-                retransmits,
-                last_retransmit,
-            } => configure_timeout(agent, table, id, initial, retransmits, last_retransmit),
-            Call::ConfigureTimeoutWithMax { id, rto } => {
-                configure_timeout_with_max(agent, table, id, rto)
-            }
-            Call::RequestTransaction { id } => request_transaction(agent, table, id),
-            Call::IsValidatedPeer { addr } => is_validated_peer(agent, addr, known, places),
-            Call::ValidatedPeer { addr } => validated_peer(agent, addr, known, places),
-            Call::Stats => read_stats(agent, was),
-            Call::RttAverage => rtt_average(agent, was),
-            Call::OutstandingRequests => outstanding_requests(agent, was),
-            Call::Reset => reset(agent),
-        }
-    } else {
-        refused(agent, 1)
-    }
+    perform(
+        agent,
+        call,
+        Contact { known, places },
+        was,
+        message,
+        table,
+        store,
+    )
+    .unwrap_or_else(|refusal| refused(agent, refusal))
 }

@@ -1,5 +1,6 @@
 -- What the public calls promise: the answer, the agent, and all that the host lends.
-use Rattle.std.specs.Prelude.{ℕ, ◌≡◌, List, length, set}
+use Rattle.model.specs.declared.Refusal.{Refusal}
+use Rattle.std.specs.Prelude.{ℕ, ◌≡◌, List, length, set, Option, None, Some, Result, Ok, Err}
 use Rattle.address.specs.declared.Address.{Address}
 use Rattle.stats.specs.Count.{counted}
 use Rattle.stats.specs.declared.StunAgentStats.{StunAgentStats}
@@ -10,14 +11,10 @@ use Rattle.model.specs.Fresh.{build_of}
 use Rattle.model.specs.Says.{Said}
 use Rattle.model.specs.declared.StunAgent.{StunAgent}
 use Rattle.model.specs.declared.StunAgentBuilder.{StunAgentBuilder}
-use Rattle.model.specs.declared.Built.{Built}
-use Rattle.model.specs.declared.Built.TheVariants.{Refused, Fresh}
 use Rattle.model.specs.declared.Call.{Call}
 use Rattle.agent.specs.Ready.{world_of}
 use Rattle.agent.specs.Said.{said_in, words_in}
 use Rattle.agent.specs.declared.Called.{Called}
-use Rattle.agent.specs.declared.Place.{Place}
-use Rattle.agent.specs.declared.Place.TheVariants.{At, Nowhere}
 use Rattle.entry.specs.declared.Answered.{Answered}
 use Rattle.entry.specs.declared.Stepped.{Stepped}
 
@@ -25,9 +22,9 @@ abbrev pub answered_of : Called → Answered
 answered_of out = record { agent = out.agent; answer = out.answer }
 
 -- A place as an index into a list of so many; the length stands for nowhere.
-abbrev pub index_of : Place → ℕ → ℕ
-index_of (At i) places = i
-index_of Nowhere places = places
+abbrev pub index_of : Option ℕ → ℕ → ℕ
+index_of (Some i) places = i
+index_of None places = places
 
 -- The new peer is put down, the event is counted.
 pub record Settled (out : Called) (from : Address) (peers peers' : List Address) (st st' : StunAgentStats) (r : Answered) : Type 0 where
@@ -47,17 +44,14 @@ pub record Performed
   pub words : t' ≡ words_in t (world_of a t store peers st) (kind_of c) m
 
 -- The same for a caller that holds the peers and the statistics by value.
-abbrev pub stepped_of : Answered → List Address → StunAgentStats → Stepped
-stepped_of r peers st = record { held = record { agent = r.agent; peers = peers; stats = st }; answer = r.answer }
-
 abbrev pub answered_in : Stepped → Answered
 answered_in r = record { agent = r.held.agent; answer = r.answer }
 
 -- "Fresh means mark 0, no request, no peer, and the record zeroed if statistics are on."
-abbrev pub event_in : Built → Event
-event_in (Refused n) = event.Nothing
-event_in (Fresh agent e) = e
+abbrev pub event_in : Result (StunAgent × Event) Refusal → Event
+event_in (Err q) = event.Nothing
+event_in (Ok (agent, e)) = e
 
-pub record Started (b : StunAgentBuilder) (st st' : StunAgentStats) (r : Built) : Type 0 where
+pub record Started (b : StunAgentBuilder) (st st' : StunAgentStats) (r : Result (StunAgent × Event) Refusal) : Type 0 where
   pub says : r ≡ build_of b
   pub records : st' ≡ counted (event_in r) st

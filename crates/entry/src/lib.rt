@@ -9,54 +9,36 @@
 #![tactic(auto)]
 
 ghost use Rattle.std.specs.Prelude.{◌≡◌};
-ghost use Rattle.entry.specs.Entry.{answered_of, index_of, event_in, answered_in, stepped_of, Settled, Performed, Started};
+ghost use Rattle.entry.specs.Entry.{event_in, answered_in, Settled, Performed, Started};
 
 use address::Address;
-use agent::{Called, Place};
-use model::{Answer, Built, Call, StunAgent, StunAgentBuilder};
+use agent::Called;
+use model::{Answer, Call, Refusal, StunAgent, StunAgentBuilder};
 use stats::{Event, StunAgentStats};
 
 // What a call leaves besides what was lent.
-#[derive(Clone, Copy)]
+#[derive(Clone, Copy, Debug, PartialEq, Eq)]
 pub struct Answered {
     pub agent: StunAgent,
     pub answer: Answer,
-}
-
-fn answer_of(out: Called) -> Answered
-    ensures { result ≡ answered_of out }
-{
-    let agent = out.agent;
-    let answer = out.answer;
-    Answered {
-        agent: agent,
-        answer: answer,
-    }
-}
-
-// Where a new peer goes, as an index; nowhere is past the end.
-fn index_of(out: Called, places: usize) -> usize
-    ensures { result ≡ index_of out.place places }
-{
-    let place = out.place;
-    match place {
-        Place::At(i) => i,
-        Place::Nowhere => places,
-    }
 }
 
 // What an outcome does to the lent list and the lent record.
 fn settle(out: Called, from: Address, peers: &mut [Address], stats: &mut StunAgentStats) -> Answered
     ensures { Settled out from peers.old peers.new stats.old stats.new result }
 {
-    let place = index_of(out, peers.len());
+    // `put_peer` does nothing past the end, so the length stands for nowhere: document 01 wants what takes the list thin.
+    let place = out.place.unwrap_or(peers.len());
     peers::put_peer(peers, place, from);
-    let event = out.event;
-    stats::record(stats, event);
-    answer_of(out)
+    stats::record(stats, out.event);
+    Answered {
+        agent: out.agent,
+        answer: out.answer,
+    }
 }
 
-// Every call of the agent. It asks nothing of what is lent: a state that isn't well formed is refused by 1.
+// Every call of the agent. It asks nothing of what is lent: a state that isn't well formed is refused by 1. What is lent stays four
+// parameters here and below: the host has each by itself, and would take a struct of four `&mut` apart again to use one.
 pub fn call(
     agent: StunAgent,
     call: Call,
@@ -69,40 +51,32 @@ pub fn call(
     ensures { Performed agent call message.now table.old store.old peers.old stats.old table.new store.new peers.new stats.new result }
 {
     let from = agent::address_of(call);
-    let n = agent.peers;
-    let known = peers::has_peer(&*peers, n, from);
-    let was = *stats;
-    let out = agent::dispatch(agent, call, known, peers.len(), was, message, table, store);
+    let known = peers::has_peer(peers, agent.peers, from);
+    let out = agent::dispatch(
+        agent,
+        call,
+        known,
+        peers.len(),
+        *stats,
+        message,
+        table,
+        store,
+    );
     settle(out, from, peers, stats)
 }
 
 // What a caller carries from call to call that holds the peers and the statistics by value; table and store stay lent.
-#[derive(Clone, Copy)]
+#[derive(Clone, Copy, Debug, PartialEq, Eq)]
 pub struct Held {
     pub agent: StunAgent,
     pub peers: [Address; 64],
     pub stats: StunAgentStats,
 }
 
-#[derive(Clone, Copy)]
+#[derive(Clone, Copy, Debug, PartialEq, Eq)]
 pub struct Stepped {
     pub held: Held,
     pub answer: Answer,
-}
-
-fn step_of(r: Answered, peers: [Address; 64], stats: StunAgentStats) -> Stepped
-    ensures { result ≡ stepped_of r peers stats }
-{
-    let agent = r.agent;
-    let answer = r.answer;
-    Stepped {
-        held: Held {
-            agent: agent,
-            peers: peers,
-            stats: stats,
-        },
-        answer: answer,
-    }
 }
 
 // `call` for a caller that holds the peers and the statistics by value: they are lent to it as locals.
@@ -112,43 +86,44 @@ pub fn door(
     message: &[u8],
     table: &mut [u64],
     store: &mut [u8],
-    peers: [Address; 64],
-    stats: StunAgentStats,
+    mut peers: [Address; 64],
+    mut stats: StunAgentStats,
 ) -> Stepped
     ensures { Performed agent c message.now table.old store.old peers stats table.new store.new result.held.peers result.held.stats (answered_in result) }
 {
-    let mut ps = peers;
-    let mut st = stats;
-    let r = call(agent, c, message, table, store, &mut ps, &mut st);
-    step_of(r, ps, st)
-}
-
-// `door`, for a caller that keeps what it holds in one piece.
-pub fn step(held: Held, c: Call, message: &[u8], table: &mut [u64], store: &mut [u8]) -> Stepped
-    ensures { Performed held.agent c message.now table.old store.old held.peers held.stats table.new store.new result.held.peers result.held.stats (answered_in result) }
-{
-    let agent = held.agent;
-    let peers = held.peers;
-    let stats = held.stats;
-    door(agent, c, message, table, store, peers, stats)
-}
-
-// The event of a fresh agent; none where the settings were refused.
-fn event_in(built: Built) -> Event
-    ensures { result ≡ event_in built }
-{
-    match built {
-        Built::Refused(_) => Event::Nothing,
-        Built::Fresh { agent: _, event: e } => e,
+    let Answered { agent, answer } = call(agent, c, message, table, store, &mut peers, &mut stats);
+    Stepped {
+        held: Held {
+            agent,
+            peers,
+            stats,
+        },
+        answer,
     }
 }
 
+// `door`, for a caller that keeps what it holds in one piece; docs/STATEMENTS.md names both.
+pub fn step(held: Held, c: Call, message: &[u8], table: &mut [u64], store: &mut [u8]) -> Stepped
+    ensures { Performed held.agent c message.now table.old store.old held.peers held.stats table.new store.new result.held.peers result.held.stats (answered_in result) }
+{
+    door(held.agent, c, message, table, store, held.peers, held.stats)
+}
+
+// The event of a fresh agent; none where the settings were refused.
+fn event_in(built: Result<(StunAgent, Event), Refusal>) -> Event
+    ensures { result ≡ event_in built }
+{
+    built.map_or(Event::Nothing, |(_, event)| event)
+}
+
 // `StunAgentBuilder::build`, with the lent record zeroed if statistics are on.
-pub fn start(builder: StunAgentBuilder, stats: &mut StunAgentStats) -> Built
+pub fn start(
+    builder: StunAgentBuilder,
+    stats: &mut StunAgentStats,
+) -> Result<(StunAgent, Event), Refusal>
     ensures { Started builder stats.old stats.new result }
 {
     let built = agent::build(builder);
-    let event = event_in(built);
-    stats::record(stats, event);
+    stats::record(stats, event_in(built));
     built
 }

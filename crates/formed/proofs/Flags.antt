@@ -1,31 +1,25 @@
 -- The flags of the rows that are taken.
 --     flags_none, flags_mark, flags_outside    no row taken, one row more, a row that has no flag
---     flag_at, length_flags                    one flag, and how many
+--     flag_at                                  one flag
 --     lowest_flag                              the first flag that isn't set is the lowest free row
---     lowest_next, lowest_here, lowest_end     looking for it, flag by flag
+--     lowest_is                                and what `position` finds
+use Rattle.std.specs.Prelude.{Option, Some}
 use Prim.Native.Nat.{ℕ, zero, suc, ◌+◌, ◌≤◌, ◌<◌}
-use mathlib.Core.Path.{◌≡◌, refl, sym, ap, ◌∙◌}
-use mathlib.Core.Bool.{Bool, true, false, cond}
+use mathlib.Core.Path.{◌≡◌, refl, ap, ◌∙◌}
+use mathlib.Core.Bool.{Bool, true, false, cond, not}
+use Rattle.std.specs.List.{position_from}
 use mathlib.Core.List.{List, [], ◌∷◌}
 use native.Mathlib.Nat.{not-suc-le-zero, add-zero}
-use native.Mathlib.Numerals.{add-one}
 use native.Mathlib.Omega.{arith}
-use lib.ListN.{length, get_or, set, drop, replicate, drop_of_length-le}
-use lib.Seq.{drop-cons}
+use lib.ListN.{get_or, set, replicate}
 use borrow.Author.Tests.{eq-eqb, ne_eqb}
 use Rattle.rows.specs.Lists.{among}
 use Rattle.requests.specs.Search.{free_from}
-use Rattle.requests.specs.declared.FreeRow.{FreeRow}
-use Rattle.requests.specs.declared.FreeRow.TheVariants.{Row, Full}
 use Rattle.formed.specs.Flags.{flags_from, flags, lowest_from}
 
 none_from : (i n : ℕ) → replicate n false ≡ flags_from i n []
 none_from i zero = refl
 none_from i (suc n) = ap (λ (l : List Bool). false ∷ l) (none_from (i + 1) n)
-
-length_from : (i n : ℕ) (taken : List ℕ) → length (flags_from i n taken) ≡ n
-length_from i zero taken = refl
-length_from i (suc n) taken = ap suc (length_from (i + 1) n taken)
 
 -- a row before the first flag, or behind the last one
 below_from : (i n k : ℕ) (taken : List ℕ) → k < i → flags_from i n taken ≡ flags_from i n (k ∷ taken)
@@ -71,28 +65,16 @@ module _ (n k : ℕ) (taken : List ℕ) where
   unfolding flags
   flag_at d h = let e : 0 + k ≡ k = omega arith in at_from 0 n k taken d h ∙ ap (λ (m : ℕ). among m taken) e
 
-pub length_flags : (n : ℕ) (taken : List ℕ) → length (flags n taken) ≡ n
-unfolding flags
-length_flags n taken = length_from 0 n taken
-
 lowest_from_lem : (i n : ℕ) (taken : List ℕ) → lowest_from i (flags_from i n taken) ≡ free_from i n taken
 lowest_from_lem i zero taken = refl
-lowest_from_lem i (suc n) taken = ap (λ (f : FreeRow). cond (among i taken) f (Row i)) (lowest_from_lem (i + 1) n taken)
+lowest_from_lem i (suc n) taken = ap (λ (f : Option ℕ). cond (among i taken) f (Some i)) (lowest_from_lem (i + 1) n taken)
 
 pub lowest_flag : (n : ℕ) (taken : List ℕ) → lowest_from 0 (flags n taken) ≡ free_from 0 n taken
 unfolding flags
 lowest_flag n taken = lowest_from_lem 0 n taken
 
--- the flags from i on, with the flag at i set or not, or with none left
-module _ (l : List Bool) (i : ℕ) where
-  next : (d : Bool) → i < length l → drop i l ≡ get_or l i d ∷ drop (i + 1) l
-  next d h = rw (add-one i) (drop-cons l i d h)
-
-  pub lowest_next : (d : Bool) → i < length l → get_or l i d ≡ true → lowest_from 0 l ≡ lowest_from i (drop i l) → lowest_from 0 l ≡ lowest_from (i + 1) (drop (i + 1) l)
-  lowest_next d h e p = p ∙ ap (lowest_from i) (next d h ∙ ap (λ (b : Bool). b ∷ drop (i + 1) l) e)
-
-  pub lowest_here : (d : Bool) → i < length l → get_or l i d ≡ false → lowest_from 0 l ≡ lowest_from i (drop i l) → Row i ≡ lowest_from 0 l
-  lowest_here d h e p = sym (p ∙ ap (lowest_from i) (next d h ∙ ap (λ (b : Bool). b ∷ drop (i + 1) l) e))
-
-  pub lowest_end : length l ≤ i → lowest_from 0 l ≡ lowest_from i (drop i l) → Full ≡ lowest_from 0 l
-  lowest_end h p = sym (p ∙ ap (lowest_from i) (drop_of_length-le l {i = i} h))
+-- the first flag that isn't set, as `position` looks for it
+pub lowest_is : (i : ℕ) (l : List Bool) → position_from not i l ≡ lowest_from i l
+lowest_is i [] = refl
+lowest_is i (true ∷ l) = lowest_is (i + 1) l
+lowest_is i (false ∷ l) = refl

@@ -1,9 +1,9 @@
 -- The test of well-formedness, from the last request to the first.
 --     Passed, passed_none, passed_next              what holds of the requests read so far
 --     no_limits, row_again, not_before              one law for each test that fails
---     formed_whole                                  from the requests read to all of them
 --     most_rows                                     words that hold well-formed requests hold at most `rows`
---     row_below, after_id                           what a request's limits say of its row; the identifier behind
+--     row_below                                     what a request's limits say of its row
+use Rattle.std.specs.Prelude.{Option, None, Some}
 use Prim.Native.Nat.{ℕ, zero, suc, ◌-◌, ◌≤◌, ◌<◌}
 use mathlib.Core.Path.{◌≡◌, refl, sym, ap, ◌∙◌}
 use mathlib.Core.Bool.{Bool, true, false, not, ◌&&◌, and-eq-true_iff}
@@ -23,13 +23,8 @@ use Rattle.records.proofs.Live.{length_live}
 use Rattle.requests.proofs.Lists.{apart, is_false, ascending_tail}
 use Rattle.formed.specs.Flags.{flags}
 use Rattle.formed.specs.Order.{is_after, next_of}
-use Rattle.formed.specs.declared.Next.{Next}
-use Rattle.formed.specs.declared.Next.TheVariants.{Id, End}
 use Rattle.formed.proofs.Flags.{flag_at}
 use Rattle.formed.proofs.Loaded.{flagged_none, mark_taken}
-
-pub after_id : (n : Next) (a : TransactionId) (k : ℕ) → n ≡ Id a → is_after (Id a) k ≡ is_after n k
-after_id n a k e = ap (λ (m : Next). is_after m k) (sym e)
 
 -- a request is in order where it goes before the first of those behind it, and they are in order
 ascending_after : (r : StunRequestState) (rs : List StunRequestState) → ascending (keys_of (r ∷ rs)) ≡ (is_after (next_of rs) (key_of r) && ascending (keys_of rs))
@@ -58,11 +53,6 @@ module _ (rows mark : ℕ) where
         whole : formed rows mark l ≡ true → formed rows mark (drop i l) ≡ true
         whole f = (formed_exactly rows mark (drop i l)).1 (formed_drop l i ((formed_exactly rows mark l).0 f))
 
-    pub formed_whole : i ≤ 0 → formed rows mark (drop i l) ≡ true → true ≡ formed rows mark l
-    formed_whole h e =
-        let z : i ≡ 0 = omega arith in
-        sym e ∙ ap (λ (j : ℕ). formed rows mark (drop j l)) z
-
   pub most_rows : (n : ℕ) (t : List ℕ) → formed rows mark (live n t) ≡ true → n ≤ rows
   most_rows n t e = rw (length_live n t) at ((formed_exactly rows mark (live n t)).0 e).count
 
@@ -70,12 +60,12 @@ module _ (rows mark : ℕ) where
   row_below r e = ((within_limits_lem rows mark r).0 e).row
 
   -- the requests read so far are well formed, their rows are flagged, and the first of them is known
-  pub record Passed (rs : List StunRequestState) (taken : List Bool) (next : Next) : Type 0 where
+  pub record Passed (rs : List StunRequestState) (taken : List Bool) (next : Option TransactionId) : Type 0 where
     pub good : formed rows mark rs ≡ true
     pub flagged : taken ≡ flags rows (rows_of rs)
     pub first : next ≡ next_of rs
 
-  pub passed_none : (rs : List StunRequestState) → rs ≡ [] → Passed rs (replicate rows false) End
+  pub passed_none : (rs : List StunRequestState) → rs ≡ [] → Passed rs (replicate rows false) None
   passed_none rs e = record {
     good = ap (formed rows mark) e ∙ (formed_exactly rows mark []).1 record { count = omega arith; order = tt; apart = tt; within = tt };
     flagged = flagged_none rows rs e;
@@ -83,7 +73,7 @@ module _ (rows mark : ℕ) where
   }
 
   -- one more is read: r, which stands before them
-  module _ (l : List StunRequestState) (i : ℕ) (taken : List Bool) (next : Next) (w : Passed (drop i l) taken next) (r : StunRequestState) (e : drop (i - 1) l ≡ r ∷ drop i l) where
+  module _ (l : List StunRequestState) (i : ℕ) (taken : List Bool) (next : Option TransactionId) (w : Passed (drop i l) taken next) (r : StunRequestState) (e : drop (i - 1) l ≡ r ∷ drop i l) where
     refused : false ≡ formed rows mark (r ∷ drop i l) → false ≡ formed rows mark l
     refused f = formed_part l (i - 1) (ap (formed rows mark) e ∙ sym f)
 
@@ -91,7 +81,7 @@ module _ (rows mark : ℕ) where
     flag_says d h = ap (λ (m : List Bool). get_or m r.row d) w.flagged ∙ flag_at rows r.row (rows_of (drop i l)) d h
 
     after_says : is_after next (key_of r) ≡ is_after (next_of (drop i l)) (key_of r)
-    after_says = ap (λ (m : Next). is_after m (key_of r)) w.first
+    after_says = ap (λ (m : Option TransactionId). is_after m (key_of r)) w.first
 
     pub no_limits : within_limits rows mark r ≡ false → false ≡ formed rows mark l
     no_limits f = refused (out_of_limits rows mark (r ∷ drop i l) (ap (λ (b : Bool). b && all (within_limits rows mark) (drop i l)) f))
@@ -110,7 +100,7 @@ module _ (rows mark : ℕ) where
         (ascending_after r (drop i l) ∙ ap (λ (b : Bool). b && ascending (keys_of (drop i l))) (sym after_says ∙ f)))
 
     pub passed_next : (d : Bool) → length l ≤ rows → within_limits rows mark r ≡ true → get_or taken r.row d ≡ false → is_after next (key_of r) ≡ true
-        → Passed (drop (i - 1) l) (set taken r.row true) (Id r.transaction_id)
+        → Passed (drop (i - 1) l) (set taken r.row true) (Some r.transaction_id)
     passed_next d h g f o =
         let b : r.row < rows = row_below r g in
         let v : Formed rows mark (drop i l) = (formed_exactly rows mark (drop i l)).0 w.good in

@@ -1,8 +1,6 @@
 -- The rows that are taken, as a flag for each row.
-use Rattle.std.specs.Prelude.{ℕ, zero, suc, ◌+◌, Bool, cond, List, [], ◌∷◌}
+use Rattle.std.specs.Prelude.{ℕ, zero, suc, ◌+◌, Bool, cond, List, [], ◌∷◌, Option, None, Some}
 use Rattle.rows.specs.Lists.{among}
-use Rattle.requests.specs.declared.FreeRow.{FreeRow}
-use Rattle.requests.specs.declared.FreeRow.TheVariants.{Row, Full}
 
 -- For each of n rows from i on: whether it is taken.
 abbrev pub flags_from : ℕ → ℕ → List ℕ → List Bool
@@ -13,6 +11,6 @@ unfoldable pub flags : ℕ → List ℕ → List Bool
 flags n taken = flags_from 0 n taken
 
 -- The first row whose flag isn't set, counted from i.
-abbrev pub lowest_from : ℕ → List Bool → FreeRow
-lowest_from i [] = Full
-lowest_from i (b ∷ bs) = cond b (lowest_from (i + 1) bs) (Row i)
+abbrev pub lowest_from : ℕ → List Bool → Option ℕ
+lowest_from i [] = None
+lowest_from i (b ∷ bs) = cond b (lowest_from (i + 1) bs) (Some i)

@@ -1,5 +1,6 @@
 // Questions that change nothing in the table: which row of the store is free, whether a row is in use, and whether the requests are well
-// formed. Where rows are flagged, the loop goes down the table: it knows the flags of the requests behind the one that it reads.
+// formed. Where rows are flagged, the loop goes down the table: it knows the flags of the requests behind the one that it reads. Words and count are two parameters, as in
+// `table`, which says why.
 #![tactic(auto)]
 
 ghost use Rattle.std.specs.Prelude.{◌≡◌, ◌≤◌, length};
@@ -15,67 +16,42 @@ ghost use Rattle.formed.specs.Order.{is_after};
 use message::TransactionId;
 use records::load;
 use request::StunRequestState;
-use requests::FreeRow;
 
-// The identifier of the request behind, if there is one.
-#[derive(Clone, Copy)]
-enum Next {
-    Id(TransactionId),
-    End,
-}
-
-impl Next {
-    // Whether a request with this identifier may stand before it.
-    fn is_after(self, id: TransactionId) -> bool
-        ensures { result ≡ is_after self (key id) }
-    {
-        match self {
-            Next::Id(next) => id.precedes(next),
-            Next::End => true,
-        }
-    }
+// Whether a request with this identifier may stand before the one behind, if there is one.
+#[tactic(auto, using(message::proofs::Identifiers::lt_by_key))]
+fn is_after(next: Option<TransactionId>, id: TransactionId) -> bool
+    ensures { result ≡ is_after next (key id) }
+{
+    next.is_none_or(|next| id < next)
 }
 
 // The place of the first flag that is not set.
-fn lowest(taken: &[bool]) -> FreeRow
+fn lowest(taken: &[bool]) -> Option<usize>
     ensures { result ≡ lowest_from 0 taken.now }
 {
-    let mut row = 0;
-    while row < taken.len() {
-        if !taken[row] {
-            return FreeRow::Row(row);
-        }
-        row += 1;
-    }
-    FreeRow::Full
+    taken.iter().position(|t| !*t)
 }
 
 // The lowest row that no request has. A request whose row is past the last one, as a table that isn't well formed can have it, takes none.
-pub fn free_row(t: &[u64], n: usize) -> FreeRow
+pub fn free_row(t: &[u64], n: usize) -> Option<usize>
     requires { (n ≤ 32) × (size ≤ length t.now) }
     ensures { result ≡ free_row 32 (live n t.now) }
 {
     let mut taken = [false; 32];
-    let mut i = n;
-    while i > 0 {
-        i -= 1;
-        let r = load(t, i);
-        let row = r.row;
+    for i in (0..n).rev() {
+        let row = load(t, i).row;
         if row < 32 {
             taken[row] = true;
         }
     }
-    lowest(&taken[..])
+    lowest(&taken)
 }
 
 // Whether the bytes of this request are the first `len` of this row.
 fn has_part(r: StunRequestState, row: usize, len: usize) -> bool
     ensures { result ≡ has row len r }
 {
-    if r.row == row {
-        return r.len == len;
-    }
-    false
+    r.row == row && r.len == len
 }
 
 // Whether a request has this row and this length.
@@ -83,18 +59,11 @@ pub fn in_use(t: &[u64], n: usize, row: usize, len: usize) -> bool
     requires { (n ≤ 32) × (size ≤ length t.now) }
     ensures { result ≡ in_use row len (live n t.now) }
 {
-    let mut i = 0;
-    while i < n {
-        let r = load(t, i);
-        if has_part(r, row, len) {
-            return true;
-        }
-        i += 1;
-    }
-    false
+    (0..n).any(|i| has_part(load(t, i), row, len))
 }
 
 // Whether the requests are well formed, at the agent's clock mark.
+#[tactic(auto, using(crate::proofs::Formed::row_below))]
 pub fn is_formed(t: &[u64], n: usize, mark: u64) -> bool
     requires { size ≤ length t.now }
     ensures { result ≡ formed 32 mark (live n t.now) }
@@ -103,24 +72,14 @@ pub fn is_formed(t: &[u64], n: usize, mark: u64) -> bool
         return false;
     }
     let mut seen = [false; 32];
-    let mut next = Next::End;
-    let mut i = n;
-    while i > 0 {
-        i -= 1;
+    let mut next = None;
+    for i in (0..n).rev() {
         let r = load(t, i);
-        if !r.within_limits(mark) {
+        if !r.within_limits(mark) || seen[r.row] || !is_after(next, r.transaction_id) {
             return false;
         }
-        let row = r.row;
-        if seen[row] {
-            return false;
-        }
-        let id = r.transaction_id;
-        if !next.is_after(id) {
-            return false;
-        }
-        seen[row] = true;
-        next = Next::Id(id);
+        seen[r.row] = true;
+        next = Some(r.transaction_id);
     }
     true
 }

@@ -1,26 +1,24 @@
 -- What a host played, by the answers that it saw, is what `Runs` and `Life` of crate `runs` say of the model.
 --     transmits, polls, played_runs    rounds, and steps
 --     plays_life                       demand 3's hypotheses
-use Prim.Native.Nat.{ℕ, zero, suc}
+use Rattle.model.specs.declared.Refusal.{Refusal}
+use Rattle.std.specs.Prelude.{Option, None, Some, is_none}
+use Prim.Native.Nat.{ℕ}
 use mathlib.Core.Path.{◌≡◌, refl, sym, ap, subst, ◌∙◌}
 use mathlib.Core.Bool.{Bool, true, false, ◌&&◌}
 use mathlib.Core.List.{List, [], ◌∷◌, ◌++◌, append_assoc}
-use native.Mathlib.Omega.{arith}
 use lib.Dec.{eqb}
-use borrow.Author.Tests.{ne_eqb}
 use Rattle.address.specs.declared.Address.{Address}
 use Rattle.message.specs.Head.{key}
 use Rattle.message.specs.Attributes.{message_of}
 use Rattle.message.specs.declared.Message.{Message}
-use Rattle.message.specs.declared.Parsed.{Parsed}
-use Rattle.message.specs.declared.Parsed.TheVariants.{Good, Bad}
 use Rattle.stats.specs.declared.StunAgentStats.{StunAgentStats}
 use Rattle.model.specs.World.{World}
 use Rattle.model.specs.Calls.{submits as submits-to, sends, receives, Kind, carries, scans, names, meets, counts}
 use Rattle.model.specs.Accepts.{on_message, is_response, accepts}
 use Rattle.model.specs.Refusals.{refusal_of}
 use Rattle.model.specs.Effects.{yes_or_no, passage_answer}
-use Rattle.model.specs.Says.{number_in, says_of}
+use Rattle.model.specs.Says.{refused_by, says_of}
 use Rattle.model.specs.Runs.{Turn, answers, run}
 use Rattle.model.specs.declared.StunAgentBuilder.{StunAgentBuilder}
 use Rattle.model.specs.declared.Answer.{Answer}
@@ -77,51 +75,48 @@ module _ (rows : ℕ) where
 
 -- ---- a request that is left alone
 
-not_none : (n : ℕ) → eqb (suc n) 0 ≡ false
-not_none n = ne_eqb (suc n) 0 (λ z. omega arith)
-
 module _ (rows x : ℕ) (w : World) (m : List ℕ) where
-  refused_touches : (n : ℕ) (k : Kind) → touches x k m (answer.Refused (suc n)) ≡ false
-  refused_touches n (carries (submits-to to now)) = rw (not_none n)
-  refused_touches n (carries (sends to)) = refl
-  refused_touches n (carries (receives from clock)) = refl
-  refused_touches n (scans s now) = refl
-  refused_touches n (names id wish) = rw (not_none n)
-  refused_touches n (meets addr y) = refl
-  refused_touches n (counts f) = refl
+  refused_touches : (q : Refusal) (k : Kind) → touches x k m (answer.Refused q) ≡ false
+  refused_touches q (carries (submits-to to now)) = refl
+  refused_touches q (carries (sends to)) = refl
+  refused_touches q (carries (receives from clock)) = refl
+  refused_touches q (scans s now) = refl
+  refused_touches q (names id wish) = refl
+  refused_touches q (meets addr y) = refl
+  refused_touches q (counts f) = refl
 
-  received : (from : Address) (p : Parsed)
+  received : (from : Address) (p : Option Message)
       → (is_yes (on_message p answer.No (λ y. yes_or_no (accepts w.requests from y)))
       && on_message p false (λ y. is_response y.class && eqb (key y.transaction_id) x))
       ≡ on_message p false (answers_to x w.requests from)
-  received from (Good y) = go (accepts w.requests from y)
+  received from (Some y) = go (accepts w.requests from y)
     where
       go : (b : Bool) → (is_yes (yes_or_no b) && (is_response y.class && eqb (key y.transaction_id) x))
           ≡ (b && (is_response y.class && eqb (key y.transaction_id) x))
       go true = refl
       go false = refl
-  received from Bad = refl
+  received from None = refl
 
   -- a call that isn't refused
-  passed_touches : (k : Kind) (a : Answer) → a ≡ (says_of rows w k m).answer → refusal_of rows w k m ≡ 0 → touches x k m a ≡ handles x w k m
+  passed_touches : (k : Kind) (a : Answer) → a ≡ (says_of rows w k m).answer → refusal_of rows w k m ≡ None → touches x k m a ≡ handles x w k m
   passed_touches (carries (submits-to to now)) a z e =
-      let n : number_in a ≡ 0 = ap number_in z ∙ answer_number rows w m (carries (submits-to to now)) ∙ e in rw n
+      let n : refused_by a ≡ None = ap refused_by z ∙ answer_number rows w m (carries (submits-to to now)) ∙ e in rw n
   passed_touches (carries (sends to)) a z e = refl
   passed_touches (carries (receives from clock)) a z e =
       let s : a ≡ passage_answer rows w m (receives from clock) =
       z ∙ (done rows w (carries (receives from clock)) m e).answer ∙ answer_receives rows w m from clock in
       ap (λ (c : Answer). is_yes c && responds_to x m) s ∙ received from (message_of m)
   passed_touches (scans s now) a z e = refl
-  passed_touches (names id wish) a z e = let n : number_in a ≡ 0 = ap number_in z ∙ answer_number rows w m (names id wish) ∙ e in rw n
+  passed_touches (names id wish) a z e = let n : refused_by a ≡ None = ap refused_by z ∙ answer_number rows w m (names id wish) ∙ e in rw n
   passed_touches (meets addr y) a z e = refl
   passed_touches (counts f) a z e = refl
 
-  touches_is : (k : Kind) → touches x k m (says_of rows w k m).answer ≡ (eqb (refusal_of rows w k m) 0 && handles x w k m)
+  touches_is : (k : Kind) → touches x k m (says_of rows w k m).answer ≡ (is_none (refusal_of rows w k m) && handles x w k m)
   touches_is k = go (refusal_of rows w k m) refl
     where
-      go : (n : ℕ) → refusal_of rows w k m ≡ n → touches x k m (says_of rows w k m).answer ≡ (eqb (refusal_of rows w k m) 0 && handles x w k m)
-      go zero e = rw e (passed_touches k (says_of rows w k m).answer refl e)
-      go (suc n) e = rw (e, refused_same rows w k m n e, not_none n) (refused_touches n k)
+      go : (o : Option Refusal) → refusal_of rows w k m ≡ o → touches x k m (says_of rows w k m).answer ≡ (is_none (refusal_of rows w k m) && handles x w k m)
+      go None e = rw e (passed_touches k (says_of rows w k m).answer refl e)
+      go (Some q) e = rw (e, refused_same rows w k m q e) (refused_touches q k)
 
 left_alone : (rows x : ℕ) (ts : List Turn) (w : World) → Untouched x ts (answers rows w ts) → LeftAlone rows x w ts
 left_alone rows x [] w h = tt
@@ -142,10 +137,10 @@ module _ (x : ℕ) (b : StunAgentBuilder) (was : StunAgentStats) (o : Owned) (be
   later_are : s.replies ≡ answers 32 (said 32 here (submits q)).world later
   later_are = tail_same (session_world x b was o before q later s).answers_are
 
-  is_named : (y : Message) → message_of q.bytes ≡ Good y → key y.transaction_id ≡ x
+  is_named : (y : Message) → message_of q.bytes ≡ Some y → key y.transaction_id ≡ x
   is_named y e =
       let a = request_accepted 32 here q.to q.now q.bytes (formed 32 x here q accepts_it) (passes 32 x here q accepts_it) in
-      let z : Good y ≡ Good a.message = sym e ∙ a.reads in
+      let z : Some y ≡ Some a.message = sym e ∙ a.reads in
       let u : y ≡ a.message = cc in
       rw u (is_x 32 x here q accepts_it a)
 

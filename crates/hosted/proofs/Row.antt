@@ -1,10 +1,11 @@
 -- A request keeps the row and the length that were first handed out for it, and its message there, until its end.
 --     row_kept     the theorem, of a session
+use Rattle.std.proofs.lemmas.Option.{some_pair_parts}
+use Rattle.std.specs.Prelude.{Some, None}
 use Prim.Native.Nat.{ℕ}
 use mathlib.Core.Path.{◌≡◌, refl, sym, ap, subst, ◌∙◌}
 use mathlib.Core.Bool.{true}
 use mathlib.Core.List.{List, [], ◌∷◌}
-use mathlib.Core.Option.{none}
 use lib.ListN.{length}
 use borrow.Author.Tests.{eq-eqb, le-leb}
 use Rattle.address.specs.declared.Address.{Address}
@@ -15,7 +16,6 @@ use Rattle.request.specs.declared.StunRequestState.{StunRequestState}
 use Rattle.request.proofs.Kept.{submission}
 use Rattle.requests.specs.Search.{key_of, lookup, request_of, place_of}
 use Rattle.requests.specs.Scan.{walk}
-use Rattle.requests.specs.declared.Found.TheVariants.{At}
 use Rattle.requests.proofs.Lists.{apart}
 use Rattle.requests.proofs.Search.{placed_found}
 use Rattle.requests.proofs.Transmits.{walk_sends, goes_same}
@@ -23,7 +23,7 @@ use Rattle.records.specs.Coding.{size}
 use Rattle.model.specs.World.{World, StateFormed}
 use Rattle.model.specs.Calls.{submits, sends, receives, transmits, reports, Kind, carries, scans, names, meets, counts}
 use Rattle.model.specs.Refusals.{refusal_of}
-use Rattle.model.specs.Says.{Said, number_in, says_of}
+use Rattle.model.specs.Says.{Said, refused_by, says_of}
 use Rattle.model.specs.Parts.{transmission_of}
 use Rattle.model.specs.Runs.{Turn, run}
 use Rattle.model.specs.declared.StunAgentBuilder.{StunAgentBuilder}
@@ -51,7 +51,7 @@ record Rowed (rows x row len : ℕ) (to : Address) (m : List ℕ) (w : World) : 
   state : StateFormed rows w
   place : ℕ
   request : StunRequestState
-  stands : lookup x w.requests ≡ At place request
+  stands : lookup x w.requests ≡ Some (place, request)
   row_is : request.row ≡ row
   len_is : request.len ≡ len
   address : request.to ≡ to
@@ -60,7 +60,7 @@ record Rowed (rows x row len : ℕ) (to : Address) (m : List ℕ) (w : World) : 
 -- ---- a call
 
 module _ (rows x row len : ℕ) (to : Address) (m : List ℕ) (w : World) (h : Rowed rows x row len to m w) (b : List ℕ) where
-  rowed_after : (k : Kind) → end_by x k b (says_of rows w k b).answer ≡ none → Rowed rows x row len to m (says_of rows w k b).world
+  rowed_after : (k : Kind) → end_by x k b (says_of rows w k b).answer ≡ None → Rowed rows x row len to m (says_of rows w k b).world
   rowed_after k n =
       let q = stays_call rows x w k b h.request (ap request_of h.stands) n in
       let f = found_of (lookup x (says_of rows w k b).world.requests) q.1 in
@@ -85,17 +85,16 @@ module _ (rows x row len : ℕ) (to : Address) (m : List ℕ) (w : World) (h : R
 
     sent_again : (now : ℕ) → (says_of rows w (scans transmits now) b).answer ≡ answer.Send id a row' len' → (a ≡ to) × (row' ≡ row) × (len' ≡ len)
     sent_again now e =
-        let passed : refusal_of rows w (scans transmits now) b ≡ 0 = sym (answer_number rows w b (scans transmits now)) ∙ ap number_in e in
+        let passed : refusal_of rows w (scans transmits now) b ≡ None = sym (answer_number rows w b (scans transmits now)) ∙ ap refused_by e in
         let s = scan_said rows w transmits now b passed in
         let t = w.agent.transport in
         let o = sends_out (walk t now w.requests).out id a row' len' (sym s.answers ∙ e) in
         let f = walk_sends t now w.requests o.0 o.1 in
         let g = goes_same t now f.request o.0 f.goes in
         let k : key_of f.request ≡ x = ap key (sym g.id ∙ o.2) ∙ is in
-        let there : lookup x w.requests ≡ At f.place f.request =
+        let there : lookup x w.requests ≡ Some (f.place, f.request) =
         ap (λ (n : ℕ). lookup n w.requests) (sym k) ∙ placed_found f.place f.request w.requests h.state.requests.order f.placed in
-        let z : At f.place f.request ≡ At h.place h.request = sym there ∙ h.stands in
-        let u : f.request ≡ h.request = cc in (
+        let u = (some_pair_parts _ _ _ _ (sym there ∙ h.stands)).1 in (
           sym o.3 ∙ g.to ∙ ap (λ (r : StunRequestState). r.to) u ∙ h.address,
           sym o.4 ∙ g.row ∙ ap (λ (r : StunRequestState). r.row) u ∙ h.row_is,
           sym o.5 ∙ g.len ∙ ap (λ (r : StunRequestState). r.len) u ∙ h.len_is,

@@ -3,6 +3,9 @@
 --     call_as_model, serves_as_model      a call, and calls one after the other, are the model's, from what the host owns
 --     served_as_model                     a session is a run of the model, from the fresh agent
 --     seen_is, sent_is, timed_out_is      what the host saw is the run's history, with its sends and its timeout
+use Rattle.model.specs.declared.Refusal.{Refusal}
+use Rattle.std.specs.Prelude.{Ok, Err, Result}
+use Rattle.model.specs.declared.Refusal.TheVariants.{Settings}
 use Prim.Native.Nat.{ℕ, ◌≤◌}
 use mathlib.Core.Path.{◌≡◌, refl, ap, ◌∙◌}
 use mathlib.Core.Bool.{Bool, true, false}
@@ -16,14 +19,12 @@ use Rattle.stats.specs.declared.Event.{Event}
 use Rattle.records.specs.Coding.{size}
 use Rattle.model.specs.World.{World}
 use Rattle.model.specs.Fresh.{fresh_agent, fresh_event, build_of}
-use Rattle.model.specs.Refusals.{SETTINGS, number_of}
 use Rattle.model.specs.Says.{Said}
 use Rattle.model.specs.Runs.{Turn, answers, run}
 use Rattle.model.specs.declared.StunAgent.{StunAgent}
 use Rattle.model.specs.declared.StunAgentBuilder.{StunAgentBuilder}
-use Rattle.model.specs.declared.Built.TheVariants.{Refused, Fresh}
 use Rattle.model.specs.declared.Answer.{Answer}
-use Rattle.model.proofs.Default.{build_refused, build_fresh}
+use Rattle.model.proofs.Default.{ok_same, build_refused, build_fresh}
 use Rattle.agent.specs.Ready.{world_of}
 use Rattle.entry.proofs.Theorems.{as_model}
 use Rattle.runs.specs.Run.{said, sends, timeouts}
@@ -37,14 +38,14 @@ record Begun (b : StunAgentBuilder) (a : StunAgent) (e : Event) : Type 0 where
   agent_is : a ≡ fresh_agent b.transport b.stats b.rto
   event_is : e ≡ fresh_event b.stats
 
-begun : (b : StunAgentBuilder) (a : StunAgent) (e : Event) → Fresh a e ≡ build_of b → Begun b a e
+begun : (b : StunAgentBuilder) (a : StunAgent) (e : Event) → Ok (a, e) ≡ build_of b → Begun b a e
 begun b a e h = go (within_limits b.rto) refl
   where
     go : (ok : Bool) → within_limits b.rto ≡ ok → Begun b a e
     go true k =
-        let z : Fresh a e ≡ Fresh (fresh_agent b.transport b.stats b.rto) (fresh_event b.stats) = h ∙ build_fresh b k in
-        record { agent_is = cc; event_is = cc }
-    go false k = let z : Fresh a e ≡ Refused (number_of SETTINGS) = h ∙ build_refused b k in record { agent_is = cc; event_is = cc }
+        let z : (a, e) ≡ (fresh_agent b.transport b.stats b.rto, fresh_event b.stats) = ok_same (h ∙ build_fresh b k) in
+        record { agent_is = ap (λ (x : StunAgent × Event). x.0) z; event_is = ap (λ (x : StunAgent × Event). x.1) z }
+    go false k = let z : ◌≡◌ {A = Result (StunAgent × Event) Refusal} (Ok (a, e)) (Err Settings) = h ∙ build_refused b k in record { agent_is = cc; event_is = cc }
 
 pub opened : (b : StunAgentBuilder) (was : StunAgentStats) (o : Owned) → Opens b was o → world_in o ≡ begins (start_of b was o)
 opened b was o h =

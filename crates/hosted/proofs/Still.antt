@@ -3,26 +3,25 @@
 --     in_table             so does one from its submission on
 --     stays_formed         and the world stays well formed
 --     response_accepted    a response to a request in the table
+use Rattle.model.specs.declared.Refusal.TheVariants.{Clock, PeersFull}
+use Rattle.std.specs.Prelude.{Some, Option, None}
 use Prim.Native.Nat.{ℕ}
 use mathlib.Core.Path.{◌≡◌, refl, sym, ap, ◌∙◌, subst}
 use mathlib.Core.Bool.{true, false}
 use mathlib.Core.List.{List, [], ◌∷◌, ◌++◌, append_assoc}
-use mathlib.Core.Option.{Option, some}
 use native.Mathlib.Omega.{arith}
 use Rattle.address.specs.declared.Address.{Address}
 use Rattle.message.specs.Head.{key}
 use Rattle.message.specs.Attributes.{message_of}
 use Rattle.message.specs.declared.Message.{Message}
-use Rattle.message.specs.declared.Parsed.TheVariants.{Good}
 use Rattle.waits.specs.declared.RequestRto.{RequestRto}
 use Rattle.waits.specs.declared.Transport.{Transport}
 use Rattle.request.specs.declared.StunRequestState.{StunRequestState}
 use Rattle.requests.specs.Search.{lookup, request_of}
-use Rattle.requests.specs.declared.Found.TheVariants.{At}
 use Rattle.model.specs.World.{World, StateFormed}
 use Rattle.model.specs.Calls.{receives, Kind, carries}
 use Rattle.model.specs.Accepts.{is_response}
-use Rattle.model.specs.Refusals.{CLOCK, PEERS_FULL, bad_clock, peers_full, holds, refusal_of}
+use Rattle.model.specs.Refusals.{bad_clock, peers_full, holds, refusal_of}
 use Rattle.model.specs.Says.{says_of}
 use Rattle.model.specs.Runs.{Turn, run}
 use Rattle.model.specs.declared.Answer.TheVariants as answer
@@ -59,8 +58,8 @@ nil_front (x ∷ xs) ys e = absurd (let z : ◌≡◌ {A = ℕ} 0 1 = cc in omeg
 module _ (rows x : ℕ) (tr : Transport) (set : RequestRto) where
   pub still_there : {w : World} {ss : List Step} {ts : List Turn} → Runs rows w ss ts → (m : ℕ) → Ok rows tr set m w → Steady m ss
       → LeftAlone rows x w ts
-      → (last : ℕ) (r : StunRequestState) → request_of (lookup x w.requests) ≡ some r → Loud last r → timeouts rows x w ts ≡ []
-      → (q : StunRequestState) × (request_of (lookup x (run rows w ts).requests) ≡ some q)
+      → (last : ℕ) (r : StunRequestState) → request_of (lookup x w.requests) ≡ Some r → Loud last r → timeouts rows x w ts ≡ []
+      → (q : StunRequestState) × (request_of (lookup x (run rows w ts).requests) ≡ Some q)
   unfolding timeouts
   still_there ends m o h n last r f q e = (r, f)
   still_there (then_call {w} {t} {ss} {ts} c d) m o h n last r f q e =
@@ -93,9 +92,9 @@ module _ (rows x : ℕ) (tr : Transport) (set : RequestRto) where
       world_is = run_append rows w (as' ++ ps) ts ∙ ap (λ (y : World). run rows y ts) (round_world (round a b))
 
       go : Outcome rows x tr set now h.1 g.clock g.request g.loud v ps u clock
-          → (request_of (lookup x u.requests) ≡ some g.request → timeouts rows x u ts ≡ []
-          → (y : StunRequestState) × (request_of (lookup x (run rows u ts).requests) ≡ some y))
-          → (y : StunRequestState) × (request_of (lookup x (run rows w ((as' ++ ps) ++ ts)).requests) ≡ some y)
+          → (request_of (lookup x u.requests) ≡ Some g.request → timeouts rows x u ts ≡ []
+          → (y : StunRequestState) × (request_of (lookup x (run rows u ts).requests) ≡ Some y))
+          → (y : StunRequestState) × (request_of (lookup x (run rows w ((as' ++ ps) ++ ts)).requests) ≡ Some y)
       go (stayed t l z k) ih =
           rw world_is (ih k (ap (λ (y : List ℕ). y ++ timeouts rows x u ts) (sym z) ∙ in_two))
       go (timed t z k) ih = absurd (let y : now ∷ [] ≡ [] = sym z ∙ nil_front _ _ in_two in let c : ◌≡◌ {A = ℕ} 0 1 = cc in omega arith)
@@ -106,7 +105,7 @@ module _ (rows x : ℕ) (s : Start) (q : Submission) (pre post : List Step) (bef
     (life : Life rows x s q pre post before later) where
   -- It is in the table while its timeout isn't reported.
   pub in_table : timeouts rows x (run rows (begins s) before) (submits q ∷ later) ≡ []
-      → (y : StunRequestState) × (request_of (lookup x (run rows (run rows (begins s) before) (submits q ∷ later)).requests) ≡ some y)
+      → (y : StunRequestState) × (request_of (lookup x (run rows (run rows (begins s) before) (submits q ∷ later)).requests) ≡ Some y)
   unfolding timeouts
   in_table e =
       let new = entered rows x s q pre post before later life in
@@ -118,21 +117,21 @@ module _ (rows x : ℕ) (s : Start) (q : Submission) (pre post : List Step) (bef
 
 -- ---- a response
 
-module _ (rows x : ℕ) (w : World) (formed : StateFormed rows w) (r : StunRequestState) (found : request_of (lookup x w.requests) ≡ some r) where
-  taken : (k : Kind) (m : List ℕ) (from : Address) (clock : Option ℕ) (y : Message) → k ≡ carries (receives from clock) → message_of m ≡ Good y
-      → is_response y.class ≡ true → key y.transaction_id ≡ x → holds rows w k m CLOCK ≡ false → holds rows w k m PEERS_FULL ≡ false
+module _ (rows x : ℕ) (w : World) (formed : StateFormed rows w) (r : StunRequestState) (found : request_of (lookup x w.requests) ≡ Some r) where
+  taken : (k : Kind) (m : List ℕ) (from : Address) (clock : Option ℕ) (y : Message) → k ≡ carries (receives from clock) → message_of m ≡ Some y
+      → is_response y.class ≡ true → key y.transaction_id ≡ x → holds rows w k m Clock ≡ false → holds rows w k m PeersFull ≡ false
       → (says_of rows w k m).answer ≡ answer.Yes
   taken k m from clock y z reads e named clocked placed =
       let c : bad_clock w (carries (receives from clock)) ≡ false = rw z at clocked in
       let p : peers_full w (carries (receives from clock)) m ≡ false = rw z at placed in
-      let passed : refusal_of rows w (carries (receives from clock)) m ≡ 0 =
+      let passed : refusal_of rows w (carries (receives from clock)) m ≡ None =
       past_state_lem rows w (carries (receives from clock)) m ((state_exactly rows w).1 formed) ∙ past_receives rows w m from clock ∙ rw (c, reads, p) in
       let f = found_of (lookup x w.requests) found in
-      let there : lookup (key y.transaction_id) w.requests ≡ At f.0 r = ap (λ (n : ℕ). lookup n w.requests) named ∙ f.1 in
+      let there : lookup (key y.transaction_id) w.requests ≡ Some (f.0, r) = ap (λ (n : ℕ). lookup n w.requests) named ∙ f.1 in
       ap (λ (j : Kind). (says_of rows w j m).answer) z
-      ∙ accepted_yes rows w from clock m y reads (answer_accepted w.requests from y e (At f.0 r) there) passed
+      ∙ accepted_yes rows w from clock m y reads (answer_accepted w.requests from y e (Some (f.0, r)) there) passed
 
-  pub response_accepted : (t : Turn) → Response x t → holds rows w (kind_in t) t.bytes CLOCK ≡ false
-      → holds rows w (kind_in t) t.bytes PEERS_FULL ≡ false → (said rows w t).answer ≡ answer.Yes
+  pub response_accepted : (t : Turn) → Response x t → holds rows w (kind_in t) t.bytes Clock ≡ false
+      → holds rows w (kind_in t) t.bytes PeersFull ≡ false → (said rows w t).answer ≡ answer.Yes
   response_accepted t y clocked placed =
       taken (kind_in t) t.bytes y.from y.clock y.message y.is_received y.reads y.responds y.named clocked placed

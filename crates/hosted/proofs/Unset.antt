@@ -1,10 +1,10 @@
 -- The agent whose settings were left unset: seven sends, 8,000 ms after the last of them, and a response until then.
 --     unset_waits     the theorem
+use Rattle.std.specs.Prelude.{Option, None, Some}
 use Prim.Native.Nat.{ℕ, zero, suc, ◌+◌, ◌≤◌, ◌<◌}
 use mathlib.Core.Path.{◌≡◌, refl, sym, ap, subst, ◌∙◌}
 use mathlib.Core.Bool.{Bool, true, false}
 use mathlib.Core.List.{List, [], ◌∷◌}
-use mathlib.Core.Option.{Option, none, some}
 use native.Mathlib.Omega.{arith}
 use lib.Dec.{leb}
 use lib.ListN.{length}
@@ -38,16 +38,16 @@ use Rattle.hosted.proofs.Still.{in_table, stays_formed, response_accepted}
 -- ---- the closed form: the end is counted from the last send
 
 module _ (tr : Transport) (s : RequestRto) (ts : List ℕ) where
-  end_none : (k c l : ℕ) → length (send_times s k c l ts) < k → end_time tr s k c l ts ≡ none
+  end_none : (k c l : ℕ) → length (send_times s k c l ts) < k → end_time tr s k c l ts ≡ None
   unfolding send_times end_time
   end_none zero c l h = absurd (omega arith)
   end_none (suc k) c l h = go (next ts (l + wait_of s c)) h (end_none k (suc c))
     where
       go : (o : Option ℕ) → length {A = ℕ} (on_some o [] (λ t. t ∷ send_times s k (suc c) t ts)) < suc k
-          → ((l : ℕ) → length (send_times s k (suc c) l ts) < k → end_time tr s k (suc c) l ts ≡ none)
-          → on_some o none (λ t. end_time tr s k (suc c) t ts) ≡ none
-      go none h ih = refl
-      go (some t) h ih = ih t (omega arith)
+          → ((l : ℕ) → length (send_times s k (suc c) l ts) < k → end_time tr s k (suc c) l ts ≡ None)
+          → on_some o None (λ t. end_time tr s k (suc c) t ts) ≡ None
+      go None h ih = refl
+      go (Some t) h ih = ih t (omega arith)
 
   end_last : (k c l : ℕ) → length (send_times s k c l ts) ≡ k → end_time tr s k c l ts ≡ next ts (last_of l (send_times s k c l ts) + final_wait tr s)
   unfolding send_times end_time
@@ -57,12 +57,12 @@ module _ (tr : Transport) (s : RequestRto) (ts : List ℕ) where
       go : (o : Option ℕ) → length {A = ℕ} (on_some o [] (λ t. t ∷ send_times s k (suc c) t ts)) ≡ suc k
           → ((l : ℕ) → length (send_times s k (suc c) l ts) ≡ k
           → end_time tr s k (suc c) l ts ≡ next ts (last_of l (send_times s k (suc c) l ts) + final_wait tr s))
-          → on_some o none (λ t. end_time tr s k (suc c) t ts)
+          → on_some o None (λ t. end_time tr s k (suc c) t ts)
           ≡ next ts (last_of l (on_some o [] (λ t. t ∷ send_times s k (suc c) t ts)) + final_wait tr s)
-      go none h ih = absurd (omega arith)
-      go (some t) h ih = ih t (omega arith)
+      go None h ih = absurd (omega arith)
+      go (Some t) h ih = ih t (omega arith)
 
-next_none : (ts : List ℕ) (a : ℕ) → AllBefore a ts → next ts a ≡ none
+next_none : (ts : List ℕ) (a : ℕ) → AllBefore a ts → next ts a ≡ None
 unfolding next
 next_none [] a h = refl
 next_none (t ∷ ts) a h = rw (lt-leb a t h.0) (next_none ts a h.1)
@@ -98,8 +98,8 @@ module _ (first : ℕ) (ticks sent over : List ℕ) (sent_are : sent ≡ first �
       (go (next ticks (ends_at first sent)) (next_from ticks (ends_at first sent)))
     where
       go : (o : Option ℕ) → From (ends_at first sent) o → list_of o ≡ t ∷ [] → ends_at first sent ≤ t
-      go none f e = absurd (let z : ◌≡◌ {A = ℕ} 0 1 = cc in omega arith)
-      go (some u) f e = let z : u ≡ t = cc in omega (arith, f)
+      go None f e = absurd (let z : ◌≡◌ {A = ℕ} 0 1 = cc in omega arith)
+      go (Some u) f e = let z : u ≡ t = cc in omega (arith, f)
 
   none_yet : AllBefore (ends_at first sent) ticks → over ≡ []
   none_yet h = by_number (λ l. l ≡ []) refl (ap list_of (next_none ticks (ends_at first sent) h))

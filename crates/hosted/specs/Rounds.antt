@@ -1,11 +1,11 @@
 -- A host that plays rounds, by the calls that it made and the answers that it saw; and demand 3 in its words.
-use Rattle.std.specs.Prelude.{ℕ, ◌≤◌, ◌≡◌, Bool, true, false, ◌&&◌, List, [], ◌∷◌, ◌++◌, eqb, length}
+use Rattle.std.specs.Prelude.{ℕ, ◌≤◌, ◌≡◌, Bool, true, false, ◌&&◌, List, [], ◌∷◌, ◌++◌, eqb, length, is_none}
 use Rattle.message.specs.Head.{key}
 use Rattle.message.specs.Attributes.{message_of}
 use Rattle.stats.specs.declared.StunAgentStats.{StunAgentStats}
 use Rattle.model.specs.Calls.{submits as submits-to, sends, receives, Kind, carries, scans, names, meets, counts}
 use Rattle.model.specs.Accepts.{on_message}
-use Rattle.model.specs.Says.{number_in}
+use Rattle.model.specs.Says.{refused_by}
 use Rattle.model.specs.Runs.{Turn}
 use Rattle.model.specs.declared.StunAgentBuilder.{StunAgentBuilder}
 use Rattle.model.specs.declared.Answer.{Answer}
@@ -41,11 +41,11 @@ pub data Played : List Step → List Turn → List Answer → Type 0 where
 
 -- "Answered, cancelled in either way, reconfigured or submitted again": what a call did to x, by its answer.
 abbrev pub touches : ℕ → Kind → List ℕ → Answer → Bool
-touches x (carries (submits-to to now)) m a = eqb (number_in a) 0 && on_message (message_of m) false (λ y. eqb (key y.transaction_id) x)
+touches x (carries (submits-to to now)) m a = is_none (refused_by a) && on_message (message_of m) false (λ y. eqb (key y.transaction_id) x)
 touches x (carries (sends to)) m a = false
 touches x (carries (receives from clock)) m a = is_yes a && responds_to x m
 touches x (scans s now) m a = false
-touches x (names id wish) m a = eqb (number_in a) 0 && (alters wish && eqb (key id) x)
+touches x (names id wish) m a = is_none (refused_by a) && (alters wish && eqb (key id) x)
 touches x (meets addr y) m a = false
 touches x (counts f) m a = false
 

@@ -1,7 +1,7 @@
 -- A host's session: it starts an agent and makes calls, one after the other, on memory that it leaves alone in between. Each step is what
 -- `entry::start` and `entry::call` promise, so that what is proved of every session holds of the code. `entry::step` and `entry::door`
 -- promise the same as `call`.
-use Rattle.std.specs.Prelude.{ℕ, ◌≤◌, ◌≡◌, true, List, [], ◌∷◌, ◌++◌, length}
+use Rattle.std.specs.Prelude.{ℕ, ◌≤◌, ◌≡◌, true, List, [], ◌∷◌, ◌++◌, length, Ok}
 use Rattle.address.specs.declared.Address.{Address}
 use Rattle.stats.specs.declared.StunAgentStats.{StunAgentStats}
 use Rattle.stats.specs.declared.Event.{Event}
@@ -10,7 +10,6 @@ use Rattle.model.specs.World.{World}
 use Rattle.model.specs.Runs.{Turn, answers, run}
 use Rattle.model.specs.declared.StunAgent.{StunAgent}
 use Rattle.model.specs.declared.StunAgentBuilder.{StunAgentBuilder}
-use Rattle.model.specs.declared.Built.TheVariants.{Fresh}
 use Rattle.model.specs.declared.Answer.{Answer}
 use Rattle.agent.specs.Ready.{world_of}
 use Rattle.entry.specs.Entry.{Performed, Started}
@@ -36,7 +35,7 @@ world_in o = world_of o.agent o.table o.store o.peers o.stats
 -- agent asks nothing else.
 pub record Opens (b : StunAgentBuilder) (was : StunAgentStats) (o : Owned) : Type 0 where
   pub event : Event
-  pub started : Started b was o.stats (Fresh o.agent event)
+  pub started : Started b was o.stats (Ok (o.agent, event))
   pub whole : size ≤ length o.table
 
 -- One call. A lent slice keeps its length: that is the language's own promise, which a contract doesn't repeat.

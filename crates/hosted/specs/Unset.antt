@@ -1,17 +1,16 @@
 -- An agent that was built with its settings left unset, by UDP, and a request that it accepted and that is left alone while the host plays
 -- rounds: how often it goes out, when its timeout is reported, and until when a response to it is accepted. RFC 8489's final wait is
 -- 8,000 ms by default, where the Rust has 8 ms.
-use Rattle.std.specs.Prelude.{ℕ, ◌+◌, ◌≤◌, ◌<◌, ◌≡◌, true, false, List, [], ◌∷◌, length}
-use Rattle.std.proofs.Math.Option.{Option}
+use Rattle.model.specs.declared.Refusal.TheVariants.{Clock, PeersFull}
+use Rattle.std.specs.Prelude.{ℕ, ◌+◌, ◌≤◌, ◌<◌, ◌≡◌, true, false, List, [], ◌∷◌, length, Option, Some}
 use Rattle.address.specs.declared.Address.{Address}
 use Rattle.message.specs.Head.{key}
 use Rattle.message.specs.Attributes.{message_of}
 use Rattle.message.specs.declared.Message.{Message}
-use Rattle.message.specs.declared.Parsed.TheVariants.{Good}
 use Rattle.waits.specs.Waits.{milliseconds}
 use Rattle.model.specs.Calls.{receives, carries}
 use Rattle.model.specs.Accepts.{is_response}
-use Rattle.model.specs.Refusals.{CLOCK, PEERS_FULL, holds}
+use Rattle.model.specs.Refusals.{holds}
 use Rattle.model.specs.Runs.{Turn}
 use Rattle.model.specs.declared.Answer.{Answer}
 use Rattle.model.specs.declared.Answer.TheVariants as answer
@@ -35,7 +34,7 @@ pub record Response (x : ℕ) (t : Turn) : Type 0 where
   pub clock : Option ℕ
   pub is_received : kind_in t ≡ carries (receives from clock)
   pub message : Message
-  pub reads : message_of t.bytes ≡ Good message
+  pub reads : message_of t.bytes ≡ Some message
   pub responds : is_response message.class ≡ true
   pub named : key message.transaction_id ≡ x
 
@@ -54,5 +53,5 @@ pub record UnsetWaits (x first : ℕ) (l : List Exchange) (ticks : List ℕ) (o 
   pub never_sooner : (t : ℕ) → timed_out_at x l ≡ t ∷ [] → ends_at first (sent_in x l) ≤ t
   -- Until such a round a response is accepted, unless its clock is refused, or its sender is new and the list of peers full.
   pub accepted : AllBefore (ends_at first (sent_in x l)) ticks → (t : Turn) (a : Answer) (o' : Owned) → Response x t → Calls o t a o'
-      → holds 32 (world_in o) (kind_in t) t.bytes CLOCK ≡ false → holds 32 (world_in o) (kind_in t) t.bytes PEERS_FULL ≡ false
+      → holds 32 (world_in o) (kind_in t) t.bytes Clock ≡ false → holds 32 (world_in o) (kind_in t) t.bytes PeersFull ≡ false
       → a ≡ answer.Yes

@@ -1,4 +1,8 @@
 -- How long a line can be.
+use Rattle.model.specs.Refusals.{number_of}
+use Rattle.std.specs.Prelude.{Option, None, Some}
+use Rattle.message.specs.declared.IntegrityAlgorithm.{IntegrityAlgorithm}
+use Rattle.message.specs.declared.IntegrityAlgorithm.TheVariants.{Sha1, Sha256}
 use Prim.Native.Nat.{ℕ, zero, suc, ◌+◌, ◌/◌, ◌%◌, ◌≤◌}
 use mathlib.Core.Path.{◌≡◌, refl, ◌∙◌}
 use mathlib.Core.Bool.{Bool, true, false, cond}
@@ -7,15 +11,9 @@ use native.Mathlib.Omega.{arith}
 use lib.Dec.{ltb}
 use lib.ListN.{length, length-append}
 use Rattle.message.specs.declared.TransactionId.{TransactionId}
-use Rattle.message.specs.declared.Integrity.{Integrity}
-use Rattle.message.specs.declared.Integrity.TheVariants as integrity
-use Rattle.stats.specs.declared.Rtt.{Rtt}
-use Rattle.stats.specs.declared.Rtt.TheVariants.{Absent, Nanos}
 use Rattle.stats.specs.declared.StunAgentStats.{StunAgentStats}
 use Rattle.model.specs.declared.Answer.{Answer}
 use Rattle.model.specs.declared.Answer.TheVariants as answer
-use Rattle.line.specs.declared.Reply.{Reply}
-use Rattle.line.specs.declared.Reply.TheVariants.{Told, Bad}
 use Rattle.line.specs.Lines.{glyph, digits, decimal_in, decimal_of, id_text, field_of, rtt_text, integrity_text, stats_text, answer_text, reply_text, line_of}
 
 digits_length : (b k n : ℕ) → length (digits b k n) ≡ k
@@ -46,16 +44,16 @@ id_length : (i : TransactionId) → length (id_text i) ≡ 24
 unfolding id_text
 id_length i = length-append (digits 16 8 i.hi) (digits 16 16 i.lo) ∙ omega (arith, digits_length 16 8 i.hi, digits_length 16 16 i.lo)
 
-rtt_length : (t : Rtt) → length (rtt_text t) ≤ 21
+rtt_length : (t : Option ℕ) → length (rtt_text t) ≤ 21
 unfolding rtt_text
-rtt_length Absent = omega arith
-rtt_length (Nanos n) = field_length n
+rtt_length None = omega arith
+rtt_length (Some n) = field_length n
 
-integrity_length : (i : Integrity) → length (integrity_text i) ≤ 6
+integrity_length : (i : Option IntegrityAlgorithm) → length (integrity_text i) ≤ 6
 unfolding integrity_text
-integrity_length integrity.None = omega arith
-integrity_length integrity.Sha1 = omega arith
-integrity_length integrity.Sha256 = omega arith
+integrity_length None = omega arith
+integrity_length (Some Sha1) = omega arith
+integrity_length (Some Sha256) = omega arith
 
 -- A text behind another.
 joined : (a b : List ℕ) (m n : ℕ) → length a ≤ m → length b ≤ n → length (a ++ b) ≤ m + n
@@ -85,7 +83,7 @@ stats_length s =
 
 answer_length : (a : Answer) → length (answer_text a) ≤ 299
 unfolding answer_text
-answer_length (answer.Refused n) = omega (arith, field_length n)
+answer_length (answer.Refused q) = omega (arith, field_length (number_of q))
 answer_length answer.Ok = omega arith
 answer_length answer.Yes = omega arith
 answer_length answer.No = omega arith
@@ -99,11 +97,11 @@ answer_length (answer.Average rtt) = omega (arith, rtt_length rtt)
 answer_length (answer.Outstanding n) = omega (arith, field_length n)
 answer_length (answer.Request to i) = omega (arith, integrity_length i)
 
-reply_length : (r : Reply) → length (reply_text r) ≤ 299
+reply_length : (r : Option Answer) → length (reply_text r) ≤ 299
 unfolding reply_text
-reply_length (Told a) = answer_length a
-reply_length Bad = omega arith
+reply_length (Some a) = answer_length a
+reply_length None = omega arith
 
-pub line_length : (n : ℕ) (r : Reply) → length (line_of n r) ≤ 321
+pub line_length : (n : ℕ) (r : Option Answer) → length (line_of n r) ≤ 321
 unfolding line_of
 line_length n r = joined (decimal_of n) _ 20 301 (decimal_length n) (let k = joined (reply_text r) (10 ∷ []) 299 1 (reply_length r) (omega arith) in omega (arith, k))

@@ -1,16 +1,13 @@
 -- Answers as text, and what it is to put a text into a buffer: document 01, "Replay program".
-use Rattle.std.specs.Prelude.{ℕ, zero, suc, ◌+◌, ◌/◌, ◌%◌, min, ◌≡◌, List, [], ◌∷◌, ◌++◌, cond, length, ltb}
+use Rattle.model.specs.Refusals.{number_of}
+use Rattle.message.specs.declared.IntegrityAlgorithm.{IntegrityAlgorithm}
+use Rattle.message.specs.declared.IntegrityAlgorithm.TheVariants.{Sha1, Sha256}
+use Rattle.std.specs.Prelude.{ℕ, zero, suc, ◌+◌, ◌/◌, ◌%◌, min, ◌≡◌, List, [], ◌∷◌, ◌++◌, cond, length, ltb, Option, None, Some}
 use Rattle.std.proofs.lemmas.List.Edits.{sets}
 use Rattle.message.specs.declared.TransactionId.{TransactionId}
-use Rattle.message.specs.declared.Integrity.{Integrity}
-use Rattle.message.specs.declared.Integrity.TheVariants as integrity
-use Rattle.stats.specs.declared.Rtt.{Rtt}
-use Rattle.stats.specs.declared.Rtt.TheVariants.{Absent, Nanos}
 use Rattle.stats.specs.declared.StunAgentStats.{StunAgentStats}
 use Rattle.model.specs.declared.Answer.{Answer}
 use Rattle.model.specs.declared.Answer.TheVariants as answer
-use Rattle.line.specs.declared.Reply.{Reply}
-use Rattle.line.specs.declared.Reply.TheVariants.{Told, Bad}
 
 -- A text put into a buffer at a place: each of its bytes that the buffer has a place for, and every other byte as it was. The next place,
 -- or one past the end where the text did not fit.
@@ -45,15 +42,15 @@ unfoldable pub field_of : ℕ → List ℕ
 field_of n = 32 ∷ decimal_of n
 
 -- "`-` for an absent one"
-unfoldable pub rtt_text : Rtt → List ℕ
-rtt_text Absent = 32 ∷ 45 ∷ []
-rtt_text (Nanos n) = field_of n
+unfoldable pub rtt_text : Option ℕ → List ℕ
+rtt_text None = 32 ∷ 45 ∷ []
+rtt_text (Some n) = field_of n
 
 -- "15 answers `none`, `sha1` or `sha256`"
-unfoldable pub integrity_text : Integrity → List ℕ
-integrity_text integrity.None = 110 ∷ 111 ∷ 110 ∷ 101 ∷ []
-integrity_text integrity.Sha1 = 115 ∷ 104 ∷ 97 ∷ 49 ∷ []
-integrity_text integrity.Sha256 = 115 ∷ 104 ∷ 97 ∷ 50 ∷ 53 ∷ 54 ∷ []
+unfoldable pub integrity_text : Option IntegrityAlgorithm → List ℕ
+integrity_text None = 110 ∷ 111 ∷ 110 ∷ 101 ∷ []
+integrity_text (Some Sha1) = 115 ∷ 104 ∷ 97 ∷ 49 ∷ []
+integrity_text (Some Sha256) = 115 ∷ 104 ∷ 97 ∷ 50 ∷ 53 ∷ 54 ∷ []
 
 -- "`stats` and the 14 fields in the Rust's order"
 unfoldable pub stats_text : StunAgentStats → List ℕ
@@ -66,7 +63,7 @@ stats_text s =
 
 -- Average and outstanding count have no record kind; their texts are of this port's own making.
 unfoldable pub answer_text : Answer → List ℕ
-answer_text (answer.Refused n) = 114 ∷ 101 ∷ 102 ∷ 117 ∷ 115 ∷ 101 ∷ 100 ∷ field_of n
+answer_text (answer.Refused q) = 114 ∷ 101 ∷ 102 ∷ 117 ∷ 115 ∷ 101 ∷ 100 ∷ field_of (number_of q)
 answer_text answer.Ok = 111 ∷ 107 ∷ []
 answer_text answer.Yes = 121 ∷ 101 ∷ 115 ∷ []
 answer_text answer.No = 110 ∷ 111 ∷ []
@@ -80,10 +77,10 @@ answer_text (answer.Average rtt) = 97 ∷ 118 ∷ 101 ∷ 114 ∷ 97 ∷ 103 ∷
 answer_text (answer.Outstanding n) = 111 ∷ 117 ∷ 116 ∷ 115 ∷ 116 ∷ 97 ∷ 110 ∷ 100 ∷ 105 ∷ 110 ∷ 103 ∷ field_of n
 answer_text (answer.Request to i) = integrity_text i
 
-unfoldable pub reply_text : Reply → List ℕ
-reply_text (Told a) = answer_text a
-reply_text Bad = 98 ∷ 97 ∷ 100 ∷ []
+unfoldable pub reply_text : Option Answer → List ℕ
+reply_text (Some a) = answer_text a
+reply_text None = 98 ∷ 97 ∷ 100 ∷ []
 
 -- "One line a record: its number from 1", and what it says.
-unfoldable pub line_of : ℕ → Reply → List ℕ
+unfoldable pub line_of : ℕ → Option Answer → List ℕ
 line_of n r = decimal_of n ++ (32 ∷ (reply_text r ++ (10 ∷ [])))

@@ -1,204 +1,203 @@
-// Answers as lines of text: document 01, "Replay program". Every function puts some text into a lent buffer at a place and answers the
-// next place. Bytes that pass the end of the buffer are left out, and the place then is one past the end: whoever asked sees that the
-// text didn't fit, and no line needs a bound on its length.
+// Answers as lines of text: document 01, "Replay program". A line is put into a lent buffer at a place. Bytes that pass the end of the
+// buffer are left out, and the place then is one past the end: whoever asked sees that the text didn't fit, and no line needs a bound on
+// its length.
 #![tactic(auto)]
 
-ghost use Rattle.std.specs.Prelude.{◌≡◌, ◌+◌, ◌≤◌, ◌<◌, ◌++◌, ◌∷◌, [], length};
-ghost use Rattle.line.specs.Lines.{Puts, glyph, decimal_of, digits, id_text, field_of, rtt_text, integrity_text, stats_text, answer_text, reply_text, line_of};
+ghost use Rattle.std.specs.Prelude.{◌≡◌, ◌+◌, ◌≤◌, ◌<◌, ◌++◌, ◌∷◌, [], length, min};
+ghost use Rattle.line.specs.Lines.{Puts, line_of};
 
-use message::{Integrity, TransactionId};
+use itoa::Buffer;
+use message::{IntegrityAlgorithm, TransactionId};
 use model::Answer;
-use stats::{Rtt, StunAgentStats};
+use stats::StunAgentStats;
 
 // No line is longer: its number and 14 fields of `stats`, of 20 digits each (proofs/Lengths).
 pub const LONGEST_LINE: usize = 321;
 
-// What a line says: the agent's answer, or `bad`.
-#[derive(Clone, Copy)]
-pub enum Reply {
-    Told(Answer),
-    Bad,
+// A lent buffer, and the place in it where the next text goes.
+// Methods and not `Display`: `write!` promises its text only on `Ok`, and a line is promised always, so the proof of `id` didn't close.
+#[derive(Drop)]
+struct Text<'a> {
+    out: &'a mut [u8],
+    at: usize,
+    ghost within: { at ≤ length out.now + 1 },
 }
 
-fn put(out: &mut [u8], at: usize, b: u8) -> usize
-    ensures { Puts out.old at (b ∷ []) out.new result }
-{
-    if at < out.len() {
-        out[at] = b;
-        return at + 1;
+impl<'a> Text<'a> {
+    ghost use Rattle.line.specs.Lines.{decimal_of, digits, id_text, field_of, rtt_text, integrity_text, stats_text};
+    ghost use Rattle.line.specs.Lines.{answer_text, reply_text};
+    ghost use Rattle.line.specs.Texts.{Adds};
+
+    fn new(out: &'a mut [u8], at: usize) -> Text<'a>
+        ensures same { result.out.ghost_name ≡ out.entry.ghost_name }
+        ensures bytes { result.out.now ≡ out.old }
+        ensures place { result.at ≡ min at (length out.old + 1) }
+    {
+        let at = at.min(out.len() + 1);
+        Text { out, at }
     }
-    out.len() + 1
-}
 
-fn put_bytes(out: &mut [u8], at: usize, bytes: &[u8]) -> usize
-    requires { at ≤ length out.old + 1 }
-    ensures { Puts out.old at bytes.now out.new result }
-{
-    let mut to = at;
-    let mut i = 0;
-    while i < bytes.len() {
-        to = put(out, to, bytes[i]);
-        i += 1;
-    }
-    to
-}
-
-fn digit(d: u64) -> u8
-    requires { d < 16 }
-    ensures { result ≡ glyph d }
-{
-    if d < 10 { 48 + d as u8 } else { 87 + d as u8 }
-}
-
-// The shortest decimal of n.
-fn put_decimal(out: &mut [u8], at: usize, n: u64) -> usize
-    ensures { Puts out.old at (decimal_of n) out.new result }
-{
-    if n < 10 {
-        return put(out, at, digit(n));
-    }
-    let to = put_decimal(out, at, n / 10);
-    put(out, to, digit(n % 10))
-}
-
-// The last k hexadecimal digits of n.
-fn put_hex(out: &mut [u8], at: usize, k: usize, n: u64) -> usize
-    requires { at ≤ length out.old + 1 }
-    ensures { Puts out.old at (digits 16 k n) out.new result }
-{
-    if k == 0 {
-        return at;
-    }
-    let to = put_hex(out, at, k - 1, n / 16);
-    put(out, to, digit(n % 16))
-}
-
-fn put_id(out: &mut [u8], at: usize, id: TransactionId) -> usize
-    requires { at ≤ length out.old + 1 }
-    ensures { Puts out.old at (id_text id) out.new result }
-{
-    let to = put_hex(out, at, 8, id.hi as u64);
-    put_hex(out, to, 16, id.lo)
-}
-
-// A space and a number.
-fn put_field(out: &mut [u8], at: usize, n: u64) -> usize
-    requires { at ≤ length out.old + 1 }
-    ensures { Puts out.old at (field_of n) out.new result }
-{
-    let to = put(out, at, b' ');
-    put_decimal(out, to, n)
-}
-
-fn put_rtt(out: &mut [u8], at: usize, t: Rtt) -> usize
-    requires { at ≤ length out.old + 1 }
-    ensures { Puts out.old at (rtt_text t) out.new result }
-{
-    match t {
-        Rtt::Absent => put_bytes(out, at, b" -"),
-        Rtt::Nanos(n) => put_field(out, at, n),
-    }
-}
-
-fn put_integrity(out: &mut [u8], at: usize, integrity: Integrity) -> usize
-    requires { at ≤ length out.old + 1 }
-    ensures { Puts out.old at (integrity_text integrity) out.new result }
-{
-    match integrity {
-        Integrity::None => put_bytes(out, at, b"none"),
-        Integrity::Sha1 => put_bytes(out, at, b"sha1"),
-        Integrity::Sha256 => put_bytes(out, at, b"sha256"),
-    }
-}
-
-fn put_stats(out: &mut [u8], at: usize, s: StunAgentStats) -> usize
-    requires { at ≤ length out.old + 1 }
-    ensures { Puts out.old at (stats_text s) out.new result }
-{
-    let a = put_bytes(out, at, b"stats");
-    let b = put_field(out, a, s.requests_sent);
-    let c = put_field(out, b, s.requests_received);
-    let d = put_field(out, c, s.responses_sent);
-    let e = put_field(out, d, s.responses_received);
-    let f = put_field(out, e, s.indications_sent);
-    let g = put_field(out, f, s.indications_received);
-    let h = put_field(out, g, s.transactions_timed_out);
-    let i = put_field(out, h, s.transactions_cancelled);
-    let j = put_field(out, i, s.bytes_sent);
-    let k = put_field(out, j, s.bytes_received);
-    let l = put_field(out, k, s.rtt_sum);
-    let least = s.rtt_min;
-    let m = put_rtt(out, l, least);
-    let most = s.rtt_max;
-    let n = put_rtt(out, m, most);
-    put_field(out, n, s.rtt_count)
-}
-
-fn put_named(out: &mut [u8], at: usize, word: &[u8], id: TransactionId) -> usize
-    requires { at ≤ length out.old + 1 }
-    ensures { Puts out.old at (word.now ++ id_text id) out.new result }
-{
-    let to = put_bytes(out, at, word);
-    put_id(out, to, id)
-}
-
-fn put_answer(out: &mut [u8], at: usize, answer: Answer) -> usize
-    requires { at ≤ length out.old + 1 }
-    ensures { Puts out.old at (answer_text answer) out.new result }
-{
-    match answer {
-        Answer::Refused(number) => {
-            let to = put_bytes(out, at, b"refused");
-            put_field(out, to, number)
+    fn byte(&mut self, b: u8)
+        ensures { Adds self.old (b ∷ []) self.new }
+    {
+        if self.at < self.out.len() {
+            self.out[self.at] = b;
+            self.at += 1;
+        } else {
+            self.at = self.out.len() + 1;
         }
-        Answer::Ok => put_bytes(out, at, b"ok"),
-        Answer::Yes => put_bytes(out, at, b"yes"),
-        Answer::No => put_bytes(out, at, b"no"),
-        Answer::None => put_bytes(out, at, b"none"),
-        Answer::Send {
-            id,
-            to: _,
-            row: _,
-            len,
-        } => {
-            let to = put_named(out, at, b"send ", id);
-            put_field(out, to, len as u64)
+    }
+
+    fn bytes(&mut self, bytes: &[u8])
+        ensures { Adds self.old bytes.now self.new }
+    {
+        for b in bytes {
+            self.byte(*b);
         }
-        Answer::Wait(clock) => {
-            let to = put_bytes(out, at, b"wait");
-            put_field(out, to, clock)
+    }
+
+    // The shortest decimal of n.
+    fn decimal(&mut self, n: u64)
+        ensures { Adds self.old (decimal_of n) self.new }
+    {
+        self.bytes(Buffer::new().format(n).as_bytes());
+    }
+
+    // The last k hexadecimal digits of n. A recursion, as `digits` of specs/ is: a loop would say the same of what is left, and is no plainer.
+    fn hex(&mut self, k: usize, n: u64)
+        ensures { Adds self.old (digits 16 k n) self.new }
+    {
+        if k == 0 {
+            return;
         }
-        Answer::TimedOut(id) => put_named(out, at, b"timeout ", id),
-        Answer::Cancelled(id) => put_named(out, at, b"cancelled ", id),
-        Answer::Stats(s) => put_stats(out, at, s),
-        Answer::Average(rtt) => {
-            let to = put_bytes(out, at, b"average");
-            put_rtt(out, to, rtt)
+        self.hex(k - 1, n / 16);
+        self.byte(char::from_digit((n % 16) as u32, 16).unwrap() as u8);
+    }
+
+    fn id(&mut self, id: TransactionId)
+        ensures { Adds self.old (id_text id) self.new }
+    {
+        self.hex(8, id.hi as u64);
+        self.hex(16, id.lo);
+    }
+
+    // A space and a number.
+    fn field(&mut self, n: u64)
+        ensures { Adds self.old (field_of n) self.new }
+    {
+        self.byte(b' ');
+        self.decimal(n);
+    }
+
+    #[tactic(auto, unfolding(crate::specs::Lines::rtt_text))]
+    fn rtt(&mut self, t: Option<u64>)
+        ensures { Adds self.old (rtt_text t) self.new }
+    {
+        match t {
+            None => self.bytes(b" -"),
+            Some(n) => self.field(n),
         }
-        Answer::Outstanding(n) => {
-            let to = put_bytes(out, at, b"outstanding");
-            put_field(out, to, n)
+    }
+
+    #[tactic(auto, unfolding(crate::specs::Lines::integrity_text))]
+    fn integrity(&mut self, integrity: Option<IntegrityAlgorithm>)
+        ensures { Adds self.old (integrity_text integrity) self.new }
+    {
+        match integrity {
+            None => self.bytes(b"none"),
+            Some(IntegrityAlgorithm::Sha1) => self.bytes(b"sha1"),
+            Some(IntegrityAlgorithm::Sha256) => self.bytes(b"sha256"),
         }
-        Answer::Request { to: _, integrity } => put_integrity(out, at, integrity),
+    }
+
+    fn stats(&mut self, s: StunAgentStats)
+        ensures { Adds self.old (stats_text s) self.new }
+    {
+        self.bytes(b"stats");
+        self.field(s.requests_sent);
+        self.field(s.requests_received);
+        self.field(s.responses_sent);
+        self.field(s.responses_received);
+        self.field(s.indications_sent);
+        self.field(s.indications_received);
+        self.field(s.transactions_timed_out);
+        self.field(s.transactions_cancelled);
+        self.field(s.bytes_sent);
+        self.field(s.bytes_received);
+        self.field(s.rtt_sum);
+        self.rtt(s.rtt_min);
+        self.rtt(s.rtt_max);
+        self.field(s.rtt_count);
+    }
+
+    fn named(&mut self, word: &[u8], id: TransactionId)
+        ensures { Adds self.old (word.now ++ id_text id) self.new }
+    {
+        self.bytes(word);
+        self.id(id);
+    }
+
+    // A word, a space and a number.
+    fn counted(&mut self, word: &[u8], n: u64)
+        ensures { Adds self.old (word.now ++ field_of n) self.new }
+    {
+        self.bytes(word);
+        self.field(n);
+    }
+
+    #[tactic(auto, unfolding(crate::specs::Lines::answer_text))]
+    fn answer(&mut self, answer: Answer)
+        ensures { Adds self.old (answer_text answer) self.new }
+    {
+        match answer {
+            Answer::Refused(refusal) => self.counted(b"refused", refusal.number()),
+            Answer::Ok => self.bytes(b"ok"),
+            Answer::Yes => self.bytes(b"yes"),
+            Answer::No => self.bytes(b"no"),
+            Answer::None => self.bytes(b"none"),
+            Answer::Send {
+                id,
+                to: _,
+                row: _,
+                len,
+            } => {
+                self.named(b"send ", id);
+                self.field(len as u64);
+            }
+            Answer::Wait(clock) => self.counted(b"wait", clock),
+            Answer::TimedOut(id) => self.named(b"timeout ", id),
+            Answer::Cancelled(id) => self.named(b"cancelled ", id),
+            Answer::Stats(s) => self.stats(s),
+            Answer::Average(rtt) => {
+                self.bytes(b"average");
+                self.rtt(rtt);
+            }
+            Answer::Outstanding(n) => self.counted(b"outstanding", n),
+            Answer::Request { to: _, integrity } => self.integrity(integrity),
+        }
+    }
+
+    // The answer, or `bad` where there is none.
+    #[tactic(auto, unfolding(crate::specs::Lines::reply_text))]
+    fn reply(&mut self, reply: Option<Answer>)
+        ensures { Adds self.old (reply_text reply) self.new }
+    {
+        match reply {
+            Some(answer) => self.answer(answer),
+            None => self.bytes(b"bad"),
+        }
     }
 }
 
-fn put_reply(out: &mut [u8], at: usize, reply: Reply) -> usize
-    requires { at ≤ length out.old + 1 }
-    ensures { Puts out.old at (reply_text reply) out.new result }
-{
-    match reply {
-        Reply::Told(answer) => put_answer(out, at, answer),
-        Reply::Bad => put_bytes(out, at, b"bad"),
-    }
-}
-
-// A whole line: its number, the reply, the line feed.
-pub fn put_line(out: &mut [u8], at: usize, number: u64, reply: Reply) -> usize
+// A whole line: its number, the reply, the line feed. The place afterwards is a number, one past the end where the line doesn't fit: what
+// this promises may not change.
+pub fn put_line(out: &mut [u8], at: usize, number: u64, reply: Option<Answer>) -> usize
     ensures { Puts out.old at (line_of number reply) out.new result }
 {
-    let a = put_decimal(out, at, number);
-    let b = put(out, a, b' ');
-    let c = put_reply(out, b, reply);
-    put(out, c, b'\n')
+    let mut text = Text::new(out, at);
+    text.decimal(number);
+    text.byte(b' ');
+    text.reply(reply);
+    text.byte(b'\n');
+    text.at
 }

@@ -2,11 +2,17 @@
 --     key_same      two identifiers with one key are one
 --     key_reads     the key of an identifier in a message is the number that its twelve bytes spell
 --     key_order     so identifiers are ordered as lists of bytes are, the first byte heaviest
+--     eq_by_key, lt_by_key, ge_by_key     the derived `==`, `<` and `>=` of identifiers are those of their keys
 use mathlib.Core.Path.{◌≡◌, sym, ap₂, ◌∙◌}
 use mathlib.Core.List.{List}
 use Prim.Native.Nat.{ℕ, ◌+◌, ◌*◌, ◌^◌, ◌≤◌, ◌<◌}
 use native.Mathlib.Omega.{arith}
-use lib.Dec.{ltb}
+use Rattle.std.proofs.lemmas.Grind.{common_steps}
+use lib.Dec.{eqb, ltb}
+use mathlib.Core.Bool.{not}
+use Rattle.std.specs.Ordering.{partial_lt, partial_ge}
+use Rattle.message.specs.contracts.TransactionIdPartialEq.TheImpl.{eq-value}
+use Rattle.message.specs.contracts.TransactionIdPartialOrd.TheImpl.{partial_cmp-value}
 use lib.ListN.{length, drop, length-drop}
 use lib.Seq.{length-take-le}
 use Rattle.wire.specs.Wire.{bytes_at, number, Bytes, first_less}
@@ -36,3 +42,17 @@ key_order s t i j h k p q =
   where
     twelve : (s : List ℕ) (i : ℕ) → i + 12 ≤ length s → length (bytes_at s i 12) ≡ 12
     twelve s i h = length-take-le 12 (drop i s) (rw length-drop (omega arith))
+
+-- what the derived comparisons promise, beside the keys
+module _ (a b : TransactionId) (p : a.lo < 2 ^ 64) (q : b.lo < 2 ^ 64) where
+  pub eq_by_key : eqb (key a) (key b) ≡ eq-value.it a b
+  unfolding key
+  eq_by_key = grind (arith, common_steps)
+
+  pub lt_by_key : ltb (key a) (key b) ≡ partial_lt partial_cmp-value.it a b
+  unfolding key
+  lt_by_key = grind (arith, common_steps)
+
+  pub ge_by_key : ltb (key a) (key b) ≡ not (partial_ge partial_cmp-value.it a b)
+  unfolding key
+  ge_by_key = grind (arith, common_steps)

@@ -1,6 +1,5 @@
 -- Laws about the definitions of specs/, which the functions' proofs and the layers above cite.
 pub mod Identifiers
 pub mod Classes
-mod Heads
 pub mod Messages
 mod Walks

@@ -1,4 +1,6 @@
 -- One step of the attributes, and what a step does to the walk over all of them.
+use Rattle.std.specs.Prelude.{Option, None, Some}
+use Rattle.message.specs.declared.IntegrityAlgorithm.{IntegrityAlgorithm}
 use mathlib.Core.Path.{◌≡◌, refl, ap, ◌∙◌}
 use mathlib.Core.List.{List, [], ◌∷◌}
 use mathlib.Core.Logic.{◌⊎◌, inl, inr, ⊎_elim}
@@ -8,26 +10,9 @@ use native.Mathlib.Decide.{dec_le}
 use native.Mathlib.Omega.{arith}
 use lib.ListN.{length, get_or, drop, length-drop, drop_of_length-le}
 use lib.Seq.{drop-cons, drop-drop}
-use borrow.Author.Tests.{le-leb, lt-leb}
 use Rattle.wire.specs.Wire.{be16}
 use Rattle.message.specs.Attributes.{padded, next_of, step_at, Tlv, Attributes, those, cut, with_tlv, attributes_from, later, walk_with}
-use Rattle.message.specs.declared.Step.TheVariants.{Attribute, Past, End}
-use Rattle.message.specs.declared.Integrity.{Integrity}
-use Rattle.message.specs.declared.Walk.TheVariants.{Whole, Cut}
-
--- The step.
-module _ (s : List ℕ) (at : ℕ) where
-  pub step_end : length s ≤ at → step_at s at ≡ End
-  unfolding step_at
-  step_end h = simp (le-leb _ _ h)
-
-  pub step_past : at < length s → length s < next_of s at → step_at s at ≡ Past
-  unfolding step_at
-  step_past h past = simp (lt-leb _ _ h, lt-leb _ _ past)
-
-  pub step_attribute : at < length s → next_of s at ≤ length s → step_at s at ≡ Attribute (be16 s at) (at + 4) (be16 s (at + 2)) (next_of s at)
-  unfolding step_at
-  step_attribute h fits = simp (lt-leb _ _ h, le-leb _ _ fits)
+use Rattle.message.specs.declared.Step.TheVariants.{Attribute}
 
 -- Bytes to be passed are dropped where there are enough, and cut the walk where there are not.
 skip : (l : List ℕ) (at n : ℕ) → n ≤ length l → attributes_from l at n ≡ attributes_from (drop n l) (at + n) 0
@@ -91,44 +76,42 @@ module _ (s : List ℕ) (at : ℕ) where
       (le_or_lt (at + 4) (length s))
 
 -- An attribute passed is one more that has been looked at.
-walk_more : (i : Integrity) (t : Tlv) (ts : Attributes) → walk_with i (with_tlv t ts) ≡ walk_with (later i t.kind) ts
+walk_more : (i : Option IntegrityAlgorithm) (t : Tlv) (ts : Attributes) → walk_with i (with_tlv t ts) ≡ walk_with (later i t.kind) ts
 walk_more i t (those ts) = refl
 walk_more i t cut = refl
 
 -- An attribute of type k, with the next place: nearer to the end, not past it, and the walk goes on there with the type looked at.
-pub record Stepped (s : List ℕ) (at : ℕ) (i : Integrity) (k next : ℕ) : Type 0 where
+pub record Stepped (s : List ℕ) (at : ℕ) (i : Option IntegrityAlgorithm) (k next : ℕ) : Type 0 where
   pub on : at < next
   pub within : next ≤ length s
   pub same : walk_with i (attributes_from (drop at s) at 0) ≡ walk_with (later i k) (attributes_from (drop next s) next 0)
 
 -- What the walk is at a place: at the end, where an attribute stands, and where none does.
-module _ (s : List ℕ) (at : ℕ) (i : Integrity) where
-  pub walk_end : length s ≤ at → walk_with i (attributes_from (drop at s) at 0) ≡ Whole i
+module _ (s : List ℕ) (at : ℕ) (i : Option IntegrityAlgorithm) where
+  pub walk_end : length s ≤ at → walk_with i (attributes_from (drop at s) at 0) ≡ Some i
   unfolding attributes_from
   walk_end h = rw (drop_of_length-le s h)
 
   module _ (inside : at < length s) where
     pub walk_step : (k st l n : ℕ) → step_at s at ≡ Attribute k st l n → Stepped s at i k n
+    unfolding step_at
     walk_step k st l n e =
         ⊎_elim
         (λ (fits : next_of s at ≤ length s).
-        let e' = step_attribute s at inside fits in
-        let ek : k ≡ be16 s at = cc in
-        let en : n ≡ next_of s at = cc in
+        let ek : k ≡ be16 s at = grind arith in
+        let en : n ≡ next_of s at = grind arith in
         record {
           on = omega arith;
           within = omega arith;
           same = rw (ek, en) (ap (walk_with i) (attributes_step s at fits) ∙ walk_more i (tlv_at s at) (attributes_from (drop (next_of s at) s) (next_of s at) 0));
         })
-        (λ (past : length s < next_of s at).
-        let e' = step_past s at inside past in
-        let z : ◌≡◌ {A = ℕ} 0 1 = cc in
-        absurd (omega arith))
+        (λ (past : length s < next_of s at). absurd (grind arith))
         (le_or_lt (next_of s at) (length s))
 
-    pub walk_cut : ((k st l n : ℕ) → step_at s at ≡ Attribute k st l n → ⊥) → walk_with i (attributes_from (drop at s) at 0) ≡ Cut
+    pub walk_cut : ((k st l n : ℕ) → step_at s at ≡ Attribute k st l n → ⊥) → walk_with i (attributes_from (drop at s) at 0) ≡ None
+    unfolding step_at
     walk_cut none =
         ⊎_elim
-        (λ (fits : next_of s at ≤ length s). absurd (none _ _ _ _ (step_attribute s at inside fits)))
+        (λ (fits : next_of s at ≤ length s). absurd (none (be16 s at) (at + 4) (be16 s (at + 2)) (next_of s at) (grind arith)))
         (λ (past : length s < next_of s at). ap (walk_with i) (attributes_past s at inside past))
         (le_or_lt (next_of s at) (length s))

@@ -1,17 +1,13 @@
 -- The attributes of a STUN message, and a whole message: RFC 8489, section 14. They start behind the head of twenty bytes.
-use Rattle.std.specs.Prelude.{ℕ, zero, suc, ◌+◌, ◌*◌, ◌/◌, List, [], ◌∷◌, Bool, false, cond, length, drop, leb, eqb}
+use Rattle.message.specs.declared.IntegrityAlgorithm.{IntegrityAlgorithm}
+use Rattle.message.specs.declared.Message.{Message}
+use Rattle.message.specs.declared.MessageHeader.{MessageHeader}
+use Rattle.message.specs.declared.IntegrityAlgorithm.TheVariants.{Sha1, Sha256}
+use Rattle.std.specs.Prelude.{ℕ, zero, suc, ◌+◌, ◌*◌, ◌/◌, List, [], ◌∷◌, Bool, false, cond, length, drop, leb, eqb, Option, None, Some}
 use Rattle.wire.specs.Wire.{be16}
 use Rattle.message.specs.Head.{head_of}
-use Rattle.message.specs.declared.Head.{Head}
-use Rattle.message.specs.declared.Head.TheVariants.{Good, Bad}
 use Rattle.message.specs.declared.Step.{Step}
 use Rattle.message.specs.declared.Step.TheVariants.{Attribute, Past, End}
-use Rattle.message.specs.declared.Integrity.{Integrity}
-use Rattle.message.specs.declared.Integrity.TheVariants.{None, Sha1, Sha256}
-use Rattle.message.specs.declared.Walk.{Walk}
-use Rattle.message.specs.declared.Walk.TheVariants.{Whole, Cut}
-use Rattle.message.specs.declared.Parsed.{Parsed}
-use Rattle.message.specs.declared.Parsed.TheVariants.{Good as Read, Bad as Refused}
 
 -- A length rounded up to a multiple of 4: a value and its padding.
 abbrev pub padded : ℕ → ℕ
@@ -60,33 +56,33 @@ abbrev pub attributes_of : List ℕ → Attributes
 attributes_of s = attributes_from (drop 20 s) 20 0
 
 -- Whether a type is that of an integrity attribute (sections 14.5 and 14.6): MESSAGE-INTEGRITY or MESSAGE-INTEGRITY-SHA256.
-abbrev pub has_type : Integrity → ℕ → Bool
+abbrev pub has_type : Option IntegrityAlgorithm → ℕ → Bool
 has_type None k = false
-has_type Sha1 k = eqb k 0x0008
-has_type Sha256 k = eqb k 0x001C
+has_type (Some Sha1) k = eqb k 0x0008
+has_type (Some Sha256) k = eqb k 0x001C
 
 -- What counts after an attribute of type k, where i counted before it.
-unfoldable pub later : Integrity → ℕ → Integrity
-later i k = cond (has_type Sha1 k) Sha1 (cond (has_type Sha256 k) Sha256 i)
+unfoldable pub later : Option IntegrityAlgorithm → ℕ → Option IntegrityAlgorithm
+later i k = cond (has_type (Some Sha1) k) (Some Sha1) (cond (has_type (Some Sha256) k) (Some Sha256) i)
 
 -- What counts after some attributes, where i counted before them.
-abbrev pub integrity_from : Integrity → List Tlv → Integrity
+abbrev pub integrity_from : Option IntegrityAlgorithm → List Tlv → Option IntegrityAlgorithm
 integrity_from i [] = i
 integrity_from i (t ∷ ts) = integrity_from (later i t.kind) ts
 
-abbrev pub walk_with : Integrity → Attributes → Walk
-walk_with i (those ts) = Whole (integrity_from i ts)
-walk_with i cut = Cut
+abbrev pub walk_with : Option IntegrityAlgorithm → Attributes → Option (Option IntegrityAlgorithm)
+walk_with i (those ts) = Some (integrity_from i ts)
+walk_with i cut = None
 
 -- Document 01: the integrity of a message is "the last of the two types found on the walk over all attributes".
-unfoldable pub walk_of : List ℕ → Walk
+unfoldable pub walk_of : List ℕ → Option (Option IntegrityAlgorithm)
 walk_of s = walk_with None (attributes_of s)
 
-abbrev pub with_walk : Head → Walk → Parsed
-with_walk (Good h) (Whole i) = Read (record { class = h.class; method = h.method; transaction_id = h.transaction_id; integrity = i })
-with_walk (Good h) Cut = Refused
-with_walk Bad w = Refused
+abbrev pub with_walk : Option MessageHeader → Option (Option IntegrityAlgorithm) → Option Message
+with_walk (Some h) (Some i) = Some (record { class = h.class; method = h.method; transaction_id = h.transaction_id; integrity = i })
+with_walk (Some h) None = None
+with_walk None w = None
 
 -- A whole message: a good head, and attributes that end with the message. Refusal 5, BAD_MESSAGE, is for every other string of bytes.
-unfoldable pub message_of : List ℕ → Parsed
+unfoldable pub message_of : List ℕ → Option Message
 message_of s = with_walk (head_of s) (walk_of s)

@@ -1,12 +1,10 @@
 -- The head of a STUN message: RFC 8489, section 5. Definitions on the list of a message's bytes; they compute.
-use Rattle.std.specs.Prelude.{ℕ, ◌+◌, ◌*◌, ◌/◌, ◌%◌, ◌^◌, List, Bool, ◌&&◌, cond, length, ltb, leb, eqb}
+use Rattle.std.specs.Prelude.{ℕ, ◌+◌, ◌*◌, ◌/◌, ◌%◌, ◌^◌, List, Bool, ◌&&◌, cond, length, ltb, leb, eqb, Option, None, Some}
 use Rattle.wire.specs.Wire.{be16, be32, be64}
 use Rattle.message.specs.declared.TransactionId.{TransactionId}
 use Rattle.message.specs.declared.MessageClass.{MessageClass}
 use Rattle.message.specs.declared.MessageClass.TheVariants.{Request, Indication, Success, Error}
 use Rattle.message.specs.declared.MessageHeader.{MessageHeader}
-use Rattle.message.specs.declared.Head.{Head}
-use Rattle.message.specs.declared.Head.TheVariants.{Good, Bad}
 
 -- An identifier's twelve bytes as one number, the first byte heaviest. Identifiers are equal, and ordered, as these numbers are.
 unfoldable pub key : TransactionId → ℕ
@@ -50,5 +48,5 @@ head_good s =
 unfoldable pub read_head : List ℕ → MessageHeader
 read_head s = record { class = class_of (be16 s 0); method = method_of (be16 s 0); transaction_id = id_at s 8; length = be16 s 2 }
 
-unfoldable pub head_of : List ℕ → Head
-head_of s = cond (head_good s) (Good (read_head s)) Bad
+unfoldable pub head_of : List ℕ → Option MessageHeader
+head_of s = cond (head_good s) (Some (read_head s)) None

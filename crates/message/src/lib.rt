@@ -2,18 +2,31 @@
 // equation with a definition of specs/.
 #![tactic(auto)]
 
-ghost use Rattle.std.specs.Prelude.{◌≡◌, ◌+◌, ◌≤◌, length, ltb, eqb};
-ghost use Rattle.message.specs.Head.{key, id_at, class_of, method_of, head_of};
-ghost use Rattle.message.specs.Attributes.{padded, step_at, later, walk_of, message_of};
+ghost use Rattle.std.specs.Prelude.{◌≡◌, ◌+◌, ◌≤◌, length};
+ghost use Rattle.message.specs.Head.{id_at, class_of, method_of, head_of};
+ghost use Rattle.message.specs.Attributes.{step_at, later, walk_of, message_of};
 
-// `hi` is the first 4 bytes, `lo` the last 8.
-#[derive(Clone, Copy)]
+// The bytes of a message's head.
+const HEAD: usize = 20;
+
+// The first two bits of a message are zero, so its type is below this.
+const TYPES: u16 = 0x4000;
+
+const MAGIC_COOKIE: u32 = 0x2112A442;
+
+// The types of the two integrity attributes (sections 14.5 and 14.6).
+const MESSAGE_INTEGRITY: u16 = 0x0008;
+
+const MESSAGE_INTEGRITY_SHA256: u16 = 0x001C;
+
+// `hi` is the first 4 bytes, `lo` the last 8; `<` is the order of the Rust's map.
+#[derive(Clone, Copy, Debug, PartialEq, Eq, PartialOrd, Ord)]
 pub struct TransactionId {
     pub hi: u32,
     pub lo: u64,
 }
 
-#[derive(Clone, Copy)]
+#[derive(Clone, Copy, Debug, PartialEq, Eq)]
 pub enum MessageClass {
     Request,
     Indication,
@@ -21,7 +34,7 @@ pub enum MessageClass {
     Error,
 }
 
-#[derive(Clone, Copy)]
+#[derive(Clone, Copy, Debug, PartialEq, Eq)]
 pub struct MessageHeader {
     pub class: MessageClass,
     pub method: u16,
@@ -29,15 +42,10 @@ pub struct MessageHeader {
     pub length: u16,
 }
 
-#[derive(Clone, Copy)]
-pub enum Head {
-    Good(MessageHeader),
-    Bad,
-}
-
 // What stands at a place of the attributes: an attribute, whose value starts at `start`, and the place of the next one; one that passes
-// the end of the message; or nothing more.
-#[derive(Clone, Copy)]
+// the end of the message; or nothing more. An enum that the walk takes apart by `let else`, and no iterator: the form that document 01
+// names for it.
+#[derive(Clone, Copy, Debug, PartialEq, Eq)]
 pub enum Step {
     Attribute {
         kind: u16,
@@ -49,83 +57,43 @@ pub enum Step {
     End,
 }
 
-// `Option<IntegrityAlgorithm>` in the Rust.
-#[derive(Clone, Copy)]
-pub enum Integrity {
-    None,
+#[derive(Clone, Copy, Debug, PartialEq, Eq)]
+pub enum IntegrityAlgorithm {
     Sha1,
     Sha256,
 }
 
-#[derive(Clone, Copy)]
-pub enum Walk {
-    Whole(Integrity),
-    Cut,
-}
-
-#[derive(Clone, Copy)]
+#[derive(Clone, Copy, Debug, PartialEq, Eq)]
 pub struct Message {
     pub class: MessageClass,
     pub method: u16,
     pub transaction_id: TransactionId,
-    pub integrity: Integrity,
-}
-
-#[derive(Clone, Copy)]
-pub enum Parsed {
-    Good(Message),
-    Bad,
+    pub integrity: Option<IntegrityAlgorithm>,
 }
 
 impl TransactionId {
-    // `==` of two identifiers.
-    pub fn same(self, other: TransactionId) -> bool
-        ensures { result ≡ eqb (key self) (key other) }
-    {
-        if self.hi == other.hi {
-            self.lo == other.lo
-        } else {
-            false
-        }
-    }
-
-    // `<` of two identifiers: the order of the Rust's map.
-    pub fn precedes(self, other: TransactionId) -> bool
-        ensures { result ≡ ltb (key self) (key other) }
-    {
-        if self.hi == other.hi {
-            self.lo < other.lo
-        } else {
-            self.hi < other.hi
-        }
-    }
-
+    #[tactic(auto, unfolding(crate::specs::Head::id_at))]
     pub fn from_bytes(s: &[u8], at: usize) -> Self
         requires { at + 12 ≤ length s.now }
         ensures { result ≡ id_at s.now at }
     {
         Self {
-            hi: wire::read32(s, at),
-            lo: wire::read64(s, at + 4),
+            hi: wire::read(s, at),
+            lo: wire::read(s, at + 4),
         }
     }
 }
 
+// No `From`: a class is two bits of a type, and not what a type is.
+#[tactic(auto, unfolding(crate::specs::Head::class_of))]
 pub fn class_of(t: u16) -> MessageClass
     ensures { result ≡ class_of t }
 {
-    if t / 256 % 2 == 0 {
-        if t / 16 % 2 == 0 {
-            MessageClass::Request
-        } else {
-            MessageClass::Indication
-        }
-    } else {
-        if t / 16 % 2 == 0 {
-            MessageClass::Success
-        } else {
-            MessageClass::Error
-        }
+    match (t / 256 % 2, t / 16 % 2) {
+        (0, 0) => MessageClass::Request,
+        (0, _) => MessageClass::Indication,
+        (_, 0) => MessageClass::Success,
+        _ => MessageClass::Error,
     }
 }
 
@@ -136,118 +104,96 @@ pub fn method_of(t: u16) -> u16
 }
 
 impl MessageHeader {
-    pub fn from_bytes(s: &[u8]) -> Head
+    #[tactic(auto, unfolding(crate::specs::Head::head_of, crate::specs::Head::head_good, crate::specs::Head::read_head))]
+    pub fn from_bytes(s: &[u8]) -> Option<MessageHeader>
         ensures { result ≡ head_of s.now }
     {
-        if s.len() < 20 {
-            return Head::Bad;
+        if s.len() < HEAD {
+            return None;
         }
-        let kind = wire::read16(s, 0);
-        let length = wire::read16(s, 2);
-        let cookie = wire::read32(s, 4);
-        if kind >= 0x4000 {
-            return Head::Bad;
+        let kind = wire::read::<u16>(s, 0);
+        let length = wire::read::<u16>(s, 2);
+        if kind >= TYPES
+            || wire::read::<u32>(s, 4) != MAGIC_COOKIE
+            || length % 4 != 0
+            || s.len() - HEAD != usize::from(length)
+        {
+            return None;
         }
-        if cookie != 0x2112A442 {
-            return Head::Bad;
-        }
-        if length % 4 != 0 {
-            return Head::Bad;
-        }
-        if s.len() - 20 != length as usize {
-            return Head::Bad;
-        }
-        Head::Good(MessageHeader {
+        Some(MessageHeader {
             class: class_of(kind),
             method: method_of(kind),
             transaction_id: TransactionId::from_bytes(s, 8),
-            length: length,
+            length,
         })
     }
 }
 
-fn padded_len(n: u16) -> usize
-    ensures { result ≡ padded n }
-{
-    (n as usize + 3) / 4 * 4
-}
-
+#[tactic(auto, unfolding(crate::specs::Attributes::step_at))]
 pub fn attribute_at(s: &[u8], at: usize) -> Step
     ensures { result ≡ step_at s.now at }
 {
     if s.len() <= at {
         return Step::End;
     }
-    let left = s.len() - at;
-    if left < 4 {
+    if s.len() - at < 4 {
         return Step::Past;
     }
-    let kind = wire::read16(s, at);
-    let len = wire::read16(s, at + 2);
-    let size = padded_len(len);
-    if left - 4 < size {
+    let start = at + 4;
+    let len = usize::from(wire::read::<u16>(s, at + 2));
+    let next = start + len.next_multiple_of(4);
+    if s.len() < next {
         return Step::Past;
     }
     Step::Attribute {
-        kind: kind,
-        start: at + 4,
-        len: len as usize,
-        next: at + 4 + size,
+        kind: wire::read(s, at),
+        start,
+        len,
+        next,
     }
 }
 
 // What counts once an attribute of this type is passed.
-fn after(found: Integrity, kind: u16) -> Integrity
+#[tactic(auto, unfolding(crate::specs::Attributes::later))]
+fn after(found: Option<IntegrityAlgorithm>, kind: u16) -> Option<IntegrityAlgorithm>
     ensures { result ≡ later found kind }
 {
-    if kind == 0x0008 {
-        return Integrity::Sha1;
+    match kind {
+        MESSAGE_INTEGRITY => Some(IntegrityAlgorithm::Sha1),
+        MESSAGE_INTEGRITY_SHA256 => Some(IntegrityAlgorithm::Sha256),
+        _ => found,
     }
-    if kind == 0x001C {
-        return Integrity::Sha256;
-    }
-    found
 }
 
-// The walk over all attributes of a message, which start behind its head.
-pub fn integrity_of(s: &[u8]) -> Walk
+// The walk over all attributes of a message, which start behind its head: none where one passes the end, else the integrity, which again
+// may be none.
+pub fn integrity_of(s: &[u8]) -> Option<Option<IntegrityAlgorithm>>
     ensures { result ≡ walk_of s.now }
 {
-    let mut at = 20;
-    let mut found = Integrity::None;
+    let mut at = HEAD;
+    let mut found = None;
     while at < s.len() {
-        let Step::Attribute {
-            kind,
-            start: _,
-            len: _,
-            next,
-        } = attribute_at(s, at)
-        else {
-            return Walk::Cut;
+        let Step::Attribute { kind, next, .. } = attribute_at(s, at) else {
+            return None;
         };
         found = after(found, kind);
         at = next;
     }
-    Walk::Whole(found)
+    Some(found)
 }
 
 impl Message {
-    pub fn from_bytes(s: &[u8]) -> Parsed
+    #[tactic(auto, unfolding(crate::specs::Attributes::message_of))]
+    pub fn from_bytes(s: &[u8]) -> Option<Message>
         ensures { result ≡ message_of s.now }
     {
-        let Head::Good(head) = MessageHeader::from_bytes(s) else {
-            return Parsed::Bad;
-        };
-        let Walk::Whole(found) = integrity_of(s) else {
-            return Parsed::Bad;
-        };
-        let class = head.class;
-        let id = head.transaction_id;
-        Parsed::Good(Message {
-            class: class,
+        let head = MessageHeader::from_bytes(s)?;
+        let integrity = integrity_of(s)?;
+        Some(Message {
+            class: head.class,
             method: head.method,
-            transaction_id: id,
-            integrity: found,
+            transaction_id: head.transaction_id,
+            integrity,
         })
     }
 }

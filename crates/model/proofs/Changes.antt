@@ -3,23 +3,24 @@
 --     mark_later, mark_most       the mark never falls, nor passes 2^60
 --     peer_fits                   a new peer has a place
 --     changed_formed, changed_count    a change that fits keeps the requests well formed, and their number
+use Rattle.model.specs.declared.Refusal.{Refusal}
+use Rattle.model.specs.declared.Refusal.TheVariants.{Settings, Clock, TooLong, InProgress, PeersFull}
+use Rattle.std.specs.Prelude.{None, Some, Option, slice_get}
 use Prim.Native.Nat.{ℕ, ◌+◌, ◌^◌, ◌≤◌, ◌<◌}
 use mathlib.Core.Path.{◌≡◌, refl, sym, ap, ◌∙◌}
 use mathlib.Core.Bool.{Bool, true, false, cond, not, ◌||◌}
 use mathlib.Core.List.{List}
-use mathlib.Core.Option.{Option, none, some}
 use native.Mathlib.Omega.{arith}
-use lib.Dec.{ltb, leb}
-use lib.ListN.{length, get_elem?, length-set}
-use borrow.Author.Tests.{ltb-false, leb-false, not-false}
+use Rattle.std.proofs.lemmas.Grind.{common_steps}
+use lib.Dec.{ltb}
+use lib.ListN.{length, length-set}
+use borrow.Author.Tests.{ltb-false, not-false}
 use Rattle.rows.proofs.Lists.{length_insert_at, length_remove_at}
 use Rattle.address.specs.declared.Address.{Address}
 use Rattle.message.specs.Head.{key}
 use Rattle.message.specs.Attributes.{message_of}
 use Rattle.message.specs.declared.TransactionId.{TransactionId}
 use Rattle.message.specs.declared.Message.{Message}
-use Rattle.message.specs.declared.Parsed.{Parsed}
-use Rattle.message.specs.declared.Parsed.TheVariants.{Good, Bad}
 use Rattle.message.proofs.Messages.{good_length}
 use Rattle.waits.specs.Waits as waits
 use Rattle.waits.specs.declared.Transport.{Transport}
@@ -33,13 +34,8 @@ use Rattle.request.proofs.Limits.{submitted_limits, silenced_limits, cancelled_l
 use Rattle.requests.specs.Search.{key_of, row_of, lookup, place_of, free_row}
 use Rattle.requests.specs.Scan.{hour, poll_all}
 use Rattle.requests.specs.Formed.{Formed}
-use Rattle.requests.specs.declared.Found.{Found}
-use Rattle.requests.specs.declared.Found.TheVariants.{At, Nothing}
-use Rattle.requests.specs.declared.FreeRow.{FreeRow}
-use Rattle.requests.specs.declared.FreeRow.TheVariants.{Row, Full}
 use Rattle.requests.specs.declared.Polled.{Polled}
 use Rattle.requests.specs.declared.Polled.TheVariants.{TimedOut, Cancelled, WaitUntil}
-use Rattle.requests.proofs.Lists.{neither}
 use Rattle.requests.proofs.Search.{found_at, placed_within}
 use Rattle.requests.proofs.Free.{free_row_lem}
 use Rattle.requests.proofs.Transmits.{walk_length}
@@ -48,22 +44,22 @@ use Rattle.requests.proofs.Kept.{formed_later, formed_added, formed_removed, for
 use Rattle.model.specs.World.{World, StateFormed}
 use Rattle.model.specs.Calls.{submits, sends, receives, transmits, reports, Wish, silence, cancel, configure, query, Kind, carries, scans, names, meets, counts, clock_of, wish_settings, on_some}
 use Rattle.model.specs.Accepts.{on_message, is_found, is_outstanding, is_response, accepts, new_peer}
-use Rattle.model.specs.Refusals.{SETTINGS, CLOCK, TOO_LONG, IN_PROGRESS, PEERS_FULL, Refusal, holds}
+use Rattle.model.specs.Refusals.{holds}
 use Rattle.model.specs.Effects.{on_found, on_row, Change, keeps, adds, removes, sets, steps, changed, count_after, new_request, taken, answered, reported, wished, change_of, mark_after}
 
 -- ---- what a change has to be
 
 -- A new request: its identifier isn't outstanding, it has the lowest free row and the message's length, and is within its limits.
 pub record Joins (rows later : ℕ) (l : List StunRequestState) (m : List ℕ) (r : StunRequestState) : Type 0 where
-  pub new : lookup (key_of r) l ≡ Nothing
-  pub free : free_row rows l ≡ Row (row_of r)
+  pub new : lookup (key_of r) l ≡ None
+  pub free : free_row rows l ≡ Some (row_of r)
   pub within : RequestLimits rows later r
   pub len_is : r.len ≡ length m
 
 -- Another record of the request at a place.
 pub record Replaces (rows later : ℕ) (l : List StunRequestState) (i : ℕ) (q : StunRequestState) : Type 0 where
   pub request : StunRequestState
-  pub placed : get_elem? l i ≡ some request
+  pub placed : slice_get l i ≡ Some request
   pub same : SameRequest request q
   pub within : RequestLimits rows later q
 
@@ -78,56 +74,48 @@ Fits rows later l m (steps now) = now ≡ later
 
 module _ (mark : ℕ) where
   clock_later : (o : Option ℕ) → on_some o false (λ now. ltb (2 ^ 60) now || ltb now mark) ≡ false → mark ≤ on_some o mark (λ now. now)
-  clock_later none e = omega arith
-  clock_later (some now) e = ltb-false now mark (neither (ltb (2 ^ 60) now) (ltb now mark) e).1
+  clock_later o e = grind (arith, common_steps)
 
   clock_most : (o : Option ℕ) → on_some o false (λ now. ltb (2 ^ 60) now || ltb now mark) ≡ false → mark ≤ 2 ^ 60
       → on_some o mark (λ now. now) ≤ 2 ^ 60
-  clock_most none e h = h
-  clock_most (some now) e h = ltb-false (2 ^ 60) now (neither (ltb (2 ^ 60) now) (ltb now mark) e).0
+  clock_most o e h = grind (arith, common_steps)
 
 -- ---- a call that isn't refused
 
-not_found : (f : Found) → is_found f ≡ false → f ≡ Nothing
-not_found (At place r) e = let z : ◌≡◌ {A = ℕ} 0 1 = cc in absurd (omega arith)
-not_found Nothing e = refl
+not_found : (f : Option (ℕ × StunRequestState)) → is_found f ≡ false → f ≡ None
+not_found f e = grind arith
 
 module _ (rows : ℕ) (w : World) (k : Kind) (m : List ℕ) (passes : (r : Refusal) → holds rows w k m r ≡ false) where
   pub mark_later : w.agent.mark ≤ mark_after w k
-  mark_later = clock_later w.agent.mark (clock_of k) (passes CLOCK)
+  mark_later = clock_later w.agent.mark (clock_of k) (passes Clock)
 
   pub mark_most : w.agent.mark ≤ 2 ^ 60 → mark_after w k ≤ 2 ^ 60
-  mark_most h = clock_most w.agent.mark (clock_of k) (passes CLOCK) h
+  mark_most h = clock_most w.agent.mark (clock_of k) (passes Clock) h
 
   -- A new peer has a place.
-  pub peer_fits : (a : Address) → new_peer w k m ≡ some a → w.agent.peers < length w.peers
-  peer_fits a e = leb-false (length w.peers) w.agent.peers (go (new_peer w k m) e (passes PEERS_FULL))
-    where
-      go : (o : Option Address) → o ≡ some a → on_some o false (λ a. leb (length w.peers) w.agent.peers) ≡ false
-          → leb (length w.peers) w.agent.peers ≡ false
-      go none e f = let z : ◌≡◌ {A = ℕ} 0 1 = cc in absurd (omega arith)
-      go (some b) e f = f
+  pub peer_fits : (a : Address) → new_peer w k m ≡ Some a → w.agent.peers < length w.peers
+  peer_fits a e = let full = passes PeersFull in grind (arith, common_steps)
 
 module _ (rows : ℕ) (w : World) (m : List ℕ) (formed : StateFormed rows w) where
   -- `send_request`
   submit_fits : (to : Address) (now : ℕ) → ((r : Refusal) → holds rows w (carries (submits to now)) m r ≡ false)
       → Fits rows now w.requests m (on_some (new_request rows w to now m) keeps adds)
   unfolding new_request
-  submit_fits to now passes = go (message_of m) refl (passes IN_PROGRESS)
+  submit_fits to now passes = go (message_of m) refl (passes InProgress)
     where
-      joins : (x : Message) (row : ℕ) → message_of m ≡ Good x → is_outstanding w.requests x.transaction_id ≡ false
-          → free_row rows w.requests ≡ Row row
+      joins : (x : Message) (row : ℕ) → message_of m ≡ Some x → is_outstanding w.requests x.transaction_id ≡ false
+          → free_row rows w.requests ≡ Some row
           → Joins rows now w.requests m (submitted now x.transaction_id x.integrity row (length m) to w.agent.rto)
       joins x row e n f =
           let s = submission now x.transaction_id x.integrity row (length m) to w.agent.rto in
           record {
             new = ap (λ (id : TransactionId). lookup (key id) w.requests) s.id_is ∙ not_found (lookup (key x.transaction_id) w.requests) n;
-            free = f ∙ ap Row (sym s.row_is);
+            free = f ∙ ap Some (sym s.row_is);
             within =
                 submitted_limits rows x.transaction_id x.integrity row (length m) to w.agent.rto
                 (record {
                   least = good_length m x e;
-                  most = ltb-false 1024 (length m) (passes TOO_LONG);
+                  most = ltb-false 1024 (length m) (passes TooLong);
                   is_row = (free_row_lem rows w.requests row f).below;
                   settings = formed.settings;
                 })
@@ -135,21 +123,21 @@ module _ (rows : ℕ) (w : World) (m : List ℕ) (formed : StateFormed rows w) w
             len_is = s.len_is;
           }
 
-      with_row : (x : Message) → message_of m ≡ Good x → is_outstanding w.requests x.transaction_id ≡ false
-          → (f : FreeRow) → free_row rows w.requests ≡ f
-          → Fits rows now w.requests m (on_some (on_row f none (λ row. some (submitted now x.transaction_id x.integrity row (length m) to w.agent.rto))) keeps adds)
-      with_row x e n (Row row) f = joins x row e n f
-      with_row x e n Full f = tt
+      with_row : (x : Message) → message_of m ≡ Some x → is_outstanding w.requests x.transaction_id ≡ false
+          → (f : Option ℕ) → free_row rows w.requests ≡ f
+          → Fits rows now w.requests m (on_some (on_row f None (λ row. Some (submitted now x.transaction_id x.integrity row (length m) to w.agent.rto))) keeps adds)
+      with_row x e n (Some row) f = joins x row e n f
+      with_row x e n None f = tt
 
-      go : (p : Parsed) → message_of m ≡ p → on_message p false (λ x. is_outstanding w.requests x.transaction_id) ≡ false
-          → Fits rows now w.requests m (on_some (on_message p none (λ x. on_row (free_row rows w.requests) none (λ row. some (submitted now x.transaction_id x.integrity row (length m) to w.agent.rto)))) keeps adds)
-      go (Good x) e n = with_row x e n (free_row rows w.requests) refl
-      go Bad e n = tt
+      go : (p : Option Message) → message_of m ≡ p → on_message p false (λ x. is_outstanding w.requests x.transaction_id) ≡ false
+          → Fits rows now w.requests m (on_some (on_message p None (λ x. on_row (free_row rows w.requests) None (λ row. Some (submitted now x.transaction_id x.integrity row (length m) to w.agent.rto)))) keeps adds)
+      go (Some x) e n = with_row x e n (free_row rows w.requests) refl
+      go None e n = tt
 
   -- a received message
-  taken_fits : (later id : ℕ) (f : Found) → lookup id w.requests ≡ f → Fits rows later w.requests m (taken f)
-  taken_fits later id (At i r) e = (found_at id i r w.requests e).below
-  taken_fits later id Nothing e = tt
+  taken_fits : (later id : ℕ) (f : Option (ℕ × StunRequestState)) → lookup id w.requests ≡ f → Fits rows later w.requests m (taken f)
+  taken_fits later id (Some (i, r)) e = (found_at id i r w.requests e).below
+  taken_fits later id None e = tt
 
   answer_fits : (later : ℕ) (from : Address) (x : Message) → Fits rows later w.requests m (answered w.requests from x)
   answer_fits later from x = go (accepts w.requests from x) (is_response x.class)
@@ -159,9 +147,9 @@ module _ (rows : ℕ) (w : World) (m : List ℕ) (formed : StateFormed rows w) w
       go true false = tt
       go false b = tt
 
-  receive_fits : (later : ℕ) (from : Address) (p : Parsed) → Fits rows later w.requests m (on_message p keeps (answered w.requests from))
-  receive_fits later from (Good x) = answer_fits later from x
-  receive_fits later from Bad = tt
+  receive_fits : (later : ℕ) (from : Address) (p : Option Message) → Fits rows later w.requests m (on_message p keeps (answered w.requests from))
+  receive_fits later from (Some x) = answer_fits later from x
+  receive_fits later from None = tt
 
   -- `poll`
   report_fits : (later : ℕ) (t : Transport) (now : ℕ) (o : Polled) → Says t now (now + hour) w.requests o → Fits rows later w.requests m (reported o)
@@ -170,12 +158,12 @@ module _ (rows : ℕ) (w : World) (m : List ℕ) (formed : StateFormed rows w) w
   report_fits later t now (WaitUntil clock) s = tt
 
   -- a call with an identifier
-  wish_fits : (wish : Wish) → on_some (wish_settings wish) false (λ rto. not (waits.within_limits rto)) ≡ false → (id : ℕ) (f : Found)
+  wish_fits : (wish : Wish) → on_some (wish_settings wish) false (λ rto. not (waits.within_limits rto)) ≡ false → (id : ℕ) (f : Option (ℕ × StunRequestState))
       → lookup id w.requests ≡ f → Fits rows w.agent.mark w.requests m (on_found f keeps (wished wish))
-  wish_fits wish s id Nothing e = tt
-  wish_fits wish s id (At i r) e = go wish s
+  wish_fits wish s id None e = tt
+  wish_fits wish s id (Some (i, r)) e = go wish s
     where
-      placed : get_elem? w.requests i ≡ some r
+      placed : slice_get w.requests i ≡ Some r
       placed = (found_at id i r w.requests e).placed
 
       limits : RequestLimits rows w.agent.mark r
@@ -203,7 +191,7 @@ module _ (rows : ℕ) (w : World) (m : List ℕ) (formed : StateFormed rows w) w
   change_fits (scans transmits now) passes = refl
   change_fits (scans reports now) passes =
       report_fits now w.agent.transport now (poll_all w.agent.transport now w.requests) (poll_says w.agent.transport now w.requests)
-  change_fits (names id wish) passes = wish_fits wish (passes SETTINGS) (key id) (lookup (key id) w.requests) refl
+  change_fits (names id wish) passes = wish_fits wish (passes Settings) (key id) (lookup (key id) w.requests) refl
   change_fits (meets a x) passes = tt
   change_fits (counts f) passes = tt
 

@@ -10,31 +10,30 @@
 --     new_is                           the new peer
 --     new_request_lem                      the request that a submission adds
 --     change_.., answer_..             its change of the requests and its answer, by its class
+use Rattle.model.specs.declared.Refusal.TheVariants.{State, BadMessage, Clock, Counts, InProgress, NoRequest, NoStats, PeersFull, Settings, TableFull, TooLong, WrongClass}
+use Rattle.std.specs.Prelude.{None, Some, Option}
 use Prim.Native.Nat.{ℕ, ◌+◌, ◌^◌, ◌≤◌}
-use mathlib.Core.Path.{◌≡◌, refl, sym, ap, ◌∙◌}
-use mathlib.Core.Bool.{true, false, cond, not}
+use mathlib.Core.Path.{◌≡◌, refl, ◌∙◌}
+use mathlib.Core.Bool.{true, cond}
 use mathlib.Core.List.{List}
-use mathlib.Core.Option.{Option, none, some}
+use native.Mathlib.Omega.{arith}
+use Rattle.std.proofs.lemmas.Grind.{common_steps}
 use lib.ListN.{length}
-use borrow.Author.Tests.{le-ltb, not-true, not-false}
-use Rattle.requests.proofs.Lists.{apart}
+use borrow.Author.Tests.{le-ltb, not-false}
 use Rattle.address.specs.declared.Address.{Address}
 use Rattle.message.specs.Head.{key}
 use Rattle.message.specs.Attributes.{message_of}
 use Rattle.message.specs.declared.TransactionId.{TransactionId}
 use Rattle.message.specs.declared.Message.{Message}
-use Rattle.message.specs.declared.Parsed.{Parsed}
-use Rattle.message.specs.declared.Parsed.TheVariants.{Good, Bad}
 use Rattle.stats.specs.Count.{counted}
 use Rattle.stats.specs.declared.Event.TheVariants as event
 use Rattle.request.specs.Request.{submitted}
 use Rattle.requests.specs.Search.{lookup, free_row}
-use Rattle.requests.specs.declared.FreeRow.TheVariants.{Row}
 use Rattle.requests.specs.Scan.{walk, poll_all}
 use Rattle.model.specs.World.{World, StateFormed, state_formed, known}
 use Rattle.model.specs.Calls.{submits, sends, receives, Scan, transmits, reports, Wish, Meeting, Figure, Kind, carries, scans, names, meets, counts, on_some}
 use Rattle.model.specs.Accepts.{on_message, validated, new_peer}
-use Rattle.model.specs.Refusals.{bad_settings, bad_clock, too_long, bad_message, wrong_class, in_progress, table_full, no_request, peers_full, no_stats, bad_counts, refusal_of, refusal_past, STATE, number_of}
+use Rattle.model.specs.Refusals.{bad_settings, bad_clock, too_long, bad_message, wrong_class, in_progress, table_full, no_request, peers_full, no_stats, bad_counts, refusal_of, refusal_past}
 use Rattle.model.specs.Effects.{on_found, Change, keeps, adds, steps, changed, new_request, answered, reported, wished, change_of, handed_out, passage_answer, transmit_answer, poll_answer, wish_answer, meeting_answer, figure_answer, answer_of, event_by, event_of, stored_by, peers_after, peer_count, mark_after, count_after, after, agent_after}
 use Rattle.model.specs.Says.{Said, says_of}
 use Rattle.model.specs.declared.StunAgent.{StunAgent}
@@ -46,62 +45,56 @@ use Rattle.model.proofs.State.{state_exactly}
 
 module _ (rows : ℕ) (w : World) (m : List ℕ) where
   pub past_submits : (to : Address) (now : ℕ) → refusal_past rows w (carries (submits to now)) m
-      ≡ cond (bad_clock w (carries (submits to now))) 3
-      (cond (too_long (carries (submits to now)) m) 4
-      (cond (bad_message (carries (submits to now)) m) 5
-      (cond (wrong_class (carries (submits to now)) m) 6
-      (cond (in_progress w (carries (submits to now)) m) 7
-      (cond (table_full rows w (carries (submits to now))) 8 0)))))
+      ≡ cond (bad_clock w (carries (submits to now))) (Some Clock)
+      (cond (too_long (carries (submits to now)) m) (Some TooLong)
+      (cond (bad_message (carries (submits to now)) m) (Some BadMessage)
+      (cond (wrong_class (carries (submits to now)) m) (Some WrongClass)
+      (cond (in_progress w (carries (submits to now)) m) (Some InProgress)
+      (cond (table_full rows w (carries (submits to now))) (Some TableFull) None)))))
   unfolding refusal_past new_peer
   past_submits to now = refl
 
   pub past_sends : (to : Address) → refusal_past rows w (carries (sends to)) m
-      ≡ cond (bad_message (carries (sends to)) m) 5 (cond (wrong_class (carries (sends to)) m) 6 0)
+      ≡ cond (bad_message (carries (sends to)) m) (Some BadMessage) (cond (wrong_class (carries (sends to)) m) (Some WrongClass) None)
   unfolding refusal_past new_peer
   past_sends to = refl
 
   pub past_receives : (from : Address) (clock : Option ℕ) → refusal_past rows w (carries (receives from clock)) m
-      ≡ cond (bad_clock w (carries (receives from clock))) 3
-      (cond (bad_message (carries (receives from clock)) m) 5 (cond (peers_full w (carries (receives from clock)) m) 10 0))
+      ≡ cond (bad_clock w (carries (receives from clock))) (Some Clock)
+      (cond (bad_message (carries (receives from clock)) m) (Some BadMessage) (cond (peers_full w (carries (receives from clock)) m) (Some PeersFull) None))
   unfolding refusal_past
-  past_receives from clock =
-      ap (cond (bad_clock w (carries (receives from clock))) 3) (go (message_of m) (cond (peers_full w (carries (receives from clock)) m) 10 0))
-    where
-      -- no class is wrong
-      go : (p : Parsed) (n : ℕ) → cond (on_message p true (λ x. false)) 5 (cond (on_message p false (λ x. false)) 6 n) ≡ cond (on_message p true (λ x. false)) 5 n
-      go (Good x) n = refl
-      go Bad n = refl
+  past_receives from clock = grind (arith, common_steps)
 
-  pub past_scans : (s : Scan) (now : ℕ) → refusal_past rows w (scans s now) m ≡ cond (bad_clock w (scans s now)) 3 0
+  pub past_scans : (s : Scan) (now : ℕ) → refusal_past rows w (scans s now) m ≡ cond (bad_clock w (scans s now)) (Some Clock) None
   unfolding refusal_past new_peer
   past_scans s now = refl
 
   pub past_names : (id : TransactionId) (wish : Wish) → refusal_past rows w (names id wish) m
-      ≡ cond (bad_settings (names id wish)) 2 (cond (no_request w (names id wish)) 9 0)
+      ≡ cond (bad_settings (names id wish)) (Some Settings) (cond (no_request w (names id wish)) (Some NoRequest) None)
   unfolding refusal_past new_peer
   past_names id wish = refl
 
-  pub past_meets : (a : Address) (x : Meeting) → refusal_past rows w (meets a x) m ≡ cond (peers_full w (meets a x) m) 10 0
+  pub past_meets : (a : Address) (x : Meeting) → refusal_past rows w (meets a x) m ≡ cond (peers_full w (meets a x) m) (Some PeersFull) None
   unfolding refusal_past
   past_meets a x = refl
 
   pub past_counts : (f : Figure) → refusal_past rows w (counts f) m
-      ≡ cond (no_stats w (counts f)) 11 (cond (bad_counts w (counts f)) 12 0)
+      ≡ cond (no_stats w (counts f)) (Some NoStats) (cond (bad_counts w (counts f)) (Some Counts) None)
   unfolding refusal_past new_peer
   past_counts f = refl
 
-pub passed_formed : (rows : ℕ) (w : World) (k : Kind) (m : List ℕ) → refusal_of rows w k m ≡ 0 → StateFormed rows w
-passed_formed rows w k m e = (state_exactly rows w).0 (not-false (state_formed rows w) ((passed_exactly rows w k m).0 e STATE))
+pub passed_formed : (rows : ℕ) (w : World) (k : Kind) (m : List ℕ) → refusal_of rows w k m ≡ None → StateFormed rows w
+passed_formed rows w k m e = (state_exactly rows w).0 (not-false (state_formed rows w) ((passed_exactly rows w k m).0 e State))
 
-pub never_state : (rows : ℕ) (w : World) (k : Kind) (m : List ℕ) → StateFormed rows w → refusal_of rows w k m ≡ number_of STATE → ⊥
+pub never_state : (rows : ℕ) (w : World) (k : Kind) (m : List ℕ) → StateFormed rows w → refusal_of rows w k m ≡ Some State → ⊥
 never_state rows w k m formed e =
-    let no : not (state_formed rows w) ≡ true = ((refused_exactly rows w k m STATE).0 e).0 in
-    let z : true ≡ false = sym ((state_exactly rows w).1 formed) ∙ not-true (state_formed rows w) no in
-    apart z
+    let no = ((refused_exactly rows w k m State).0 e).0 in
+    let yes = (state_exactly rows w).1 formed in
+    grind (arith, common_steps)
 
 -- A clock from the mark to 2^60.
 pub scan_passes : (rows : ℕ) (w : World) (s : Scan) (now : ℕ) (m : List ℕ) → StateFormed rows w → w.agent.mark ≤ now → now ≤ 2 ^ 60
-    → refusal_of rows w (scans s now) m ≡ 0
+    → refusal_of rows w (scans s now) m ≡ None
 scan_passes rows w s now m formed low high =
     past_state_lem rows w (scans s now) m ((state_exactly rows w).1 formed)
     ∙ (past_scans rows w m s now ∙ rw (le-ltb (2 ^ 60) now high, le-ltb now w.agent.mark low))
@@ -131,16 +124,9 @@ pub record Done (rows : ℕ) (w : World) (k : Kind) (m : List ℕ) (s : Said) : 
 module _ (rows : ℕ) (w : World) (k : Kind) (m : List ℕ) where
   pub leaves : Done rows w k m (record { answer = answer_of rows w k m; world = after rows w k m })
   unfolding after
-  leaves = record {
-    answer = refl;
-    agent = refl;
-    requests = refl;
-    store = refl;
-    peers = refl;
-    stats = refl;
-  }
+  leaves = grind arith
 
-  pub done : refusal_of rows w k m ≡ 0 → Done rows w k m (says_of rows w k m)
+  pub done : refusal_of rows w k m ≡ None → Done rows w k m (says_of rows w k m)
   done e = rw (passed_does rows w k m e) leaves
 
   pub agent_after_lem : (c : Change) (p : Option Address) → change_of rows w k m ≡ c → new_peer w k m ≡ p → (after rows w k m).agent ≡ agent_with w k c p
@@ -154,13 +140,13 @@ module _ (rows : ℕ) (w : World) (k : Kind) (m : List ℕ) where
   pub event_on : w.agent.stats ≡ true → event_of w k m ≡ event_by w k m
   event_on e = event_is ∙ rw e
 
-  pub new_is : new_peer w k m ≡ on_some (validated w k m) none (λ a. cond (known w a) none (some a))
+  pub new_is : new_peer w k m ≡ on_some (validated w k m) None (λ a. cond (known w a) None (Some a))
   unfolding new_peer
   new_is = refl
 
 module _ (rows : ℕ) (w : World) (m : List ℕ) where
-  pub new_request_lem : (to : Address) (now row : ℕ) (x : Message) → message_of m ≡ Good x → free_row rows w.requests ≡ Row row
-      → new_request rows w to now m ≡ some (submitted now x.transaction_id x.integrity row (length m) to w.agent.rto)
+  pub new_request_lem : (to : Address) (now row : ℕ) (x : Message) → message_of m ≡ Some x → free_row rows w.requests ≡ Some row
+      → new_request rows w to now m ≡ Some (submitted now x.transaction_id x.integrity row (length m) to w.agent.rto)
   unfolding new_request
   new_request_lem to now row x e f = rw (e, f)
 

@@ -7,6 +7,10 @@
 --     unset_accepted       so one that it accepts after any calls has the default's, until it is configured
 --     last_wait_ends       such a request, all steps passed, has timed out exactly from 8,000 ms after its last send on
 --     only_wait_ends       by TCP from 39,500 ms after its only send on
+use Rattle.model.specs.declared.Refusal.{Refusal}
+use Rattle.std.specs.Prelude.{Ok, Err, Result}
+use Rattle.model.specs.declared.Refusal.TheVariants.{Settings}
+use Rattle.request.specs.Times.{sent_times}
 use Prim.Native.Nat.{ℕ, ◌+◌, ◌≤◌}
 use mathlib.Core.Path.{◌≡◌, refl, sym, ap, ◌∙◌}
 use mathlib.Core.Bool.{Bool, true, false}
@@ -24,44 +28,45 @@ use Rattle.stats.specs.declared.StunAgentStats.{StunAgentStats}
 use Rattle.stats.specs.declared.Event.{Event}
 use Rattle.request.specs.Times.{passed_all}
 use Rattle.request.specs.Request.{poll_of}
-use Rattle.request.specs.declared.SendTimes.TheVariants.{Sent}
 use Rattle.request.specs.declared.StunRequestState.{StunRequestState}
 use Rattle.request.specs.declared.StunRequestPollRet.TheVariants.{TimedOut}
 use Rattle.request.proofs.Answers.{timed_out_exactly}
 use Rattle.request.proofs.Kept.{submission}
 use Rattle.model.specs.World.{World}
-use Rattle.model.specs.Refusals.{SETTINGS, number_of}
 use Rattle.model.specs.Says.{Said}
 use Rattle.model.specs.Fresh.{fresh_agent, fresh_event, unset, build_of, fresh}
 use Rattle.model.specs.Runs.{Turn, run}
 use Rattle.model.specs.declared.StunAgent.{StunAgent}
 use Rattle.model.specs.declared.StunAgentBuilder.{StunAgentBuilder}
-use Rattle.model.specs.declared.Built.TheVariants.{Refused, Fresh}
 use Rattle.model.proofs.Kept.{run_agent}
 use Rattle.model.proofs.Store.{RequestAccepted}
 
+-- Two answers of `build` that are fresh agents are the same one.
+pub ok_same : {A : Type 0} {x y : A} → ◌≡◌ {A = Result A Refusal} (Ok x) (Ok y) → x ≡ y
+ok_same e = cc
+
 module _ (b : StunAgentBuilder) where
-  pub build_refused : within_limits b.rto ≡ false → build_of b ≡ Refused (number_of SETTINGS)
+  pub build_refused : within_limits b.rto ≡ false → build_of b ≡ Err Settings
   unfolding build_of
   build_refused e = rw e
 
-  pub build_fresh : within_limits b.rto ≡ true → build_of b ≡ Fresh (fresh_agent b.transport b.stats b.rto) (fresh_event b.stats)
+  pub build_fresh : within_limits b.rto ≡ true → build_of b ≡ Ok (fresh_agent b.transport b.stats b.rto, fresh_event b.stats)
   unfolding build_of
   build_fresh e = rw e
 
   -- A fresh agent has no request.
-  pub built_empty : {a : StunAgent} {e : Event} → build_of b ≡ Fresh a e → a.requests ≡ 0
+  pub built_empty : {a : StunAgent} {e : Event} → build_of b ≡ Ok (a, e) → a.requests ≡ 0
   built_empty {a} {e} h = go (within_limits b.rto) refl
     where
       go : (ok : Bool) → within_limits b.rto ≡ ok → a.requests ≡ 0
-      go true k = let q : Fresh (fresh_agent b.transport b.stats b.rto) (fresh_event b.stats) ≡ Fresh a e = sym (build_fresh k) ∙ h in cc
-      go false k = let q : Refused (number_of SETTINGS) ≡ Fresh a e = sym (build_refused k) ∙ h in cc
+      go true k = sym (ap (λ (x : StunAgent × Event). x.0.requests) (ok_same (sym (build_fresh k) ∙ h)))
+      go false k = let q : ◌≡◌ {A = Result (StunAgent × Event) Refusal} (Err Settings) (Ok (a, e)) = sym (build_refused k) ∙ h in cc
 
   -- Whatever else was set.
-  pub built_unset : b.rto ≡ (unset b.transport).rto → build_of b ≡ Fresh (fresh_agent b.transport b.stats default_rto) (fresh_event b.stats)
+  pub built_unset : b.rto ≡ (unset b.transport).rto → build_of b ≡ Ok (fresh_agent b.transport b.stats default_rto, fresh_event b.stats)
   built_unset e =
       build_fresh (ap within_limits e ∙ (within_limits_lem default_rto).1 default_limits)
-      ∙ ap (λ (rto : RequestRto). Fresh (fresh_agent b.transport b.stats rto) (fresh_event b.stats)) e
+      ∙ ap (λ (rto : RequestRto). Ok (fresh_agent b.transport b.stats rto, fresh_event b.stats)) e
 
 pub accepted_settings : (rows : ℕ) (w : World) (to : Address) (now : ℕ) (m : List ℕ) (s : Said) (a : RequestAccepted rows w to now m s)
     → a.request.rto ≡ w.agent.rto
@@ -77,7 +82,7 @@ unset_accepted rows t stats store peers st ts to now m s a =
     accepted_settings rows (run rows start ts) to now m s a ∙ (run_agent rows ts start).rto
 
 -- A request with the default settings that wasn't cancelled and has no step left.
-module _ (now : ℕ) (r : StunRequestState) (first last : ℕ) (sent : r.send_times ≡ Sent first last) (kept : r.recv_cancelled ≡ false) (default : r.rto ≡ default_rto) where
+module _ (now : ℕ) (r : StunRequestState) (first last : ℕ) (sent : r.send_times ≡ sent_times first last) (kept : r.recv_cancelled ≡ false) (default : r.rto ≡ default_rto) where
   final : (t : Transport) (wait : ℕ) → final_wait t default_rto ≡ wait → passed_all t r ≡ true → (poll_of t now r ≡ TimedOut) ↔ (last + wait ≤ now)
   final t wait e passed =
       let z : final_wait t r.rto ≡ wait = ap (final_wait t) default ∙ e in

@@ -2,17 +2,20 @@
 -- off, that it was built with.
 --     after_formed, says_formed, call_formed, run_formed    well formed
 --     says_agent, run_agent                                 as it was built
-use Prim.Native.Nat.{ℕ, zero, suc}
+use Rattle.model.specs.declared.Refusal.{Refusal}
+use Rattle.std.specs.Prelude.{Option, None, Some}
+use Prim.Native.Nat.{ℕ}
 use mathlib.Core.Path.{◌≡◌, refl, ap, ◌∙◌}
 use mathlib.Core.Bool.{false}
 use mathlib.Core.List.{List, [], ◌∷◌}
 use native.Mathlib.Omega.{arith}
+use Rattle.std.proofs.lemmas.Grind.{common_steps}
 use lib.ListN.{length}
 use Rattle.store.proofs.Rows.{length_copied}
 use Rattle.model.specs.World.{World, StateFormed}
 use Rattle.model.specs.Calls.{Kind, kind_of}
-use Rattle.model.specs.Refusals.{Refusal, holds, refusal_of}
-use Rattle.model.specs.Effects.{Change, keeps, adds, removes, sets, steps, count_after, change_of, stored_by, mark_after, after}
+use Rattle.model.specs.Refusals.{holds, refusal_of}
+use Rattle.model.specs.Effects.{Change, count_after, change_of, stored_by, mark_after, after}
 use Rattle.model.specs.Says.{says_of, says}
 use Rattle.model.specs.declared.StunAgent.{StunAgent}
 use Rattle.model.specs.Runs.{Turn, run}
@@ -23,11 +26,7 @@ use Rattle.model.proofs.Peers.{count_fits}
 
 -- No call changes the store's length.
 length_stored : (rows : ℕ) (store m : List ℕ) (c : Change) → length (stored_by rows store m c) ≡ length store
-length_stored rows store m keeps = refl
-length_stored rows store m (adds r) = length_copied rows store r.row m
-length_stored rows store m (removes i) = refl
-length_stored rows store m (sets i q) = refl
-length_stored rows store m (steps now) = refl
+length_stored rows store m c = grind (arith, length_copied)
 
 module _ (rows : ℕ) (w : World) (k : Kind) (m : List ℕ) (formed : StateFormed rows w) where
   pub after_formed : ((r : Refusal) → holds rows w k m r ≡ false) → StateFormed rows (after rows w k m)
@@ -48,9 +47,9 @@ module _ (rows : ℕ) (w : World) (k : Kind) (m : List ℕ) (formed : StateForme
   pub says_formed : StateFormed rows (says_of rows w k m).world
   says_formed = go (refusal_of rows w k m) refl
     where
-      go : (n : ℕ) → refusal_of rows w k m ≡ n → StateFormed rows (says_of rows w k m).world
-      go zero e = rw (passed_does rows w k m e) (after_formed ((passed_exactly rows w k m).0 e))
-      go (suc n) e = rw (refused_same rows w k m n e) formed
+      go : (o : Option Refusal) → refusal_of rows w k m ≡ o → StateFormed rows (says_of rows w k m).world
+      go None e = rw (passed_does rows w k m e) (after_formed ((passed_exactly rows w k m).0 e))
+      go (Some q) e = rw (refused_same rows w k m q e) formed
 
 -- Configure "doesn't touch the agent's own settings", and neither does any other call.
 pub record SameBuild (a b : StunAgent) : Type 0 where
@@ -59,16 +58,9 @@ pub record SameBuild (a b : StunAgent) : Type 0 where
   pub rto : b.rto ≡ a.rto
 
 module _ (rows : ℕ) (w : World) (k : Kind) (m : List ℕ) where
-  after_agent : SameBuild w.agent (after rows w k m).agent
-  unfolding after
-  after_agent = record { transport = refl; stats = refl; rto = refl }
-
   pub says_agent : SameBuild w.agent (says_of rows w k m).world.agent
-  says_agent = go (refusal_of rows w k m) refl
-    where
-      go : (n : ℕ) → refusal_of rows w k m ≡ n → SameBuild w.agent (says_of rows w k m).world.agent
-      go zero e = rw (passed_does rows w k m e) after_agent
-      go (suc n) e = rw (refused_same rows w k m n e) (record { transport = refl; stats = refl; rto = refl })
+  unfolding says_of after
+  says_agent = grind (arith, common_steps)
 
 pub call_formed : (rows : ℕ) (w : World) (c : Call) (m : List ℕ) → StateFormed rows w → StateFormed rows (says rows w c m).world
 call_formed rows w c m formed = says_formed rows w (kind_of c) m formed
@@ -79,8 +71,8 @@ run_formed rows (t ∷ ts) w formed =
     run_formed rows ts (says rows w t.made t.bytes).world (call_formed rows w t.made t.bytes formed)
 
 pub run_agent : (rows : ℕ) (ts : List Turn) (w : World) → SameBuild w.agent (run rows w ts).agent
-run_agent rows [] w = record { transport = refl; stats = refl; rto = refl }
+run_agent rows [] w = grind arith
 run_agent rows (t ∷ ts) w =
     let one = says_agent rows w (kind_of t.made) t.bytes in
     let rest = run_agent rows ts (says rows w t.made t.bytes).world in
-    record { transport = rest.transport ∙ one.transport; stats = rest.stats ∙ one.stats; rto = rest.rto ∙ one.rto }
+    grind arith

@@ -1,15 +1,19 @@
 -- At most one outcome meets each promise: of a call, of `build`, and of the part that is handed out. And the short form of configure is
 -- the other with 2^61 as its maximum.
+use Rattle.std.specs.Prelude.{Result}
+use Rattle.model.specs.declared.Refusal.{Refusal}
+use Rattle.model.specs.declared.StunAgent.{StunAgent}
+use Rattle.stats.specs.declared.Event.{Event}
 use Prim.Native.Nat.{ℕ, ◌^◌}
-use mathlib.Core.Path.{◌≡◌, refl, sym, ap, ◌∙◌}
+use mathlib.Core.Path.{◌≡◌, refl, sym, ◌∙◌}
 use mathlib.Core.List.{List}
+use native.Mathlib.Omega.{arith}
 use Rattle.message.specs.declared.TransactionId.{TransactionId}
 use Rattle.model.specs.World.{World}
 use Rattle.model.specs.Says.{Said, says}
 use Rattle.model.specs.Fresh.{build_of}
 use Rattle.model.specs.Parts.{transmission_of}
 use Rattle.model.specs.declared.StunAgentBuilder.{StunAgentBuilder}
-use Rattle.model.specs.declared.Built.{Built}
 use Rattle.model.specs.declared.Call.{Call}
 use Rattle.model.specs.declared.Call.TheVariants as call
 
@@ -23,18 +27,9 @@ pub record SameOutcome (s t : Said) : Type 0 where
   pub stats : s.world.stats ≡ t.world.stats
 
 pub one_outcome : (rows : ℕ) (w : World) (c : Call) (m : List ℕ) (s t : Said) → s ≡ says rows w c m → t ≡ says rows w c m → SameOutcome s t
-one_outcome rows w c m s t e f =
-    let z : s ≡ t = e ∙ sym f in
-    record {
-      answer = ap (λ (u : Said). u.answer) z;
-      agent = ap (λ (u : Said). u.world.agent) z;
-      requests = ap (λ (u : Said). u.world.requests) z;
-      store = ap (λ (u : Said). u.world.store) z;
-      peers = ap (λ (u : Said). u.world.peers) z;
-      stats = ap (λ (u : Said). u.world.stats) z;
-    }
+one_outcome rows w c m s t e f = grind arith
 
-pub one_built : (b : StunAgentBuilder) (x y : Built) → x ≡ build_of b → y ≡ build_of b → x ≡ y
+pub one_built : (b : StunAgentBuilder) (x y : Result (StunAgent × Event) Refusal) → x ≡ build_of b → y ≡ build_of b → x ≡ y
 one_built b x y e f = e ∙ sym f
 
 pub one_part : (rows : ℕ) (w : World) (row len : ℕ) (x y : List ℕ) → x ≡ transmission_of rows w row len → y ≡ transmission_of rows w row len → x ≡ y

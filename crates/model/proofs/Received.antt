@@ -8,29 +8,26 @@
 --     other_received                        a received request or indication touches no request
 --     validated_known, sender_validated     every accepted message validates its sender
 --     known_kept                            a peer stays one, whatever the call
-use Prim.Native.Nat.{ℕ, zero, suc}
+use Rattle.model.specs.declared.Refusal.{Refusal}
+use Rattle.std.specs.Prelude.{None, Some, Option}
+use Prim.Native.Nat.{ℕ}
 use mathlib.Core.Path.{◌≡◌, refl, sym, ap, ◌∙◌}
-use mathlib.Core.Bool.{Bool, true, false, cond, ◌||◌}
+use mathlib.Core.Bool.{Bool, true, false}
 use mathlib.Core.List.{List, [], ◌∷◌, ◌++◌}
-use mathlib.Core.Option.{Option, none, some}
 use native.Mathlib.Numerals.{add-one}
+use native.Mathlib.Omega.{arith}
+use Rattle.std.proofs.lemmas.Grind.{common_steps}
 use lib.ListN.{take}
 use lib.Seq.{take-suc-set}
-use Rattle.address.specs.Address.{same_address}
 use Rattle.address.specs.declared.Address.{Address}
 use Rattle.address.proofs.Same.{same_refl}
 use Rattle.message.specs.Head.{key}
 use Rattle.message.specs.Attributes.{message_of}
 use Rattle.message.specs.declared.Message.{Message}
-use Rattle.message.specs.declared.Parsed.TheVariants.{Good}
-use Rattle.stats.specs.Count.{counted}
-use Rattle.stats.specs.declared.Event.{Event}
 use Rattle.stats.specs.declared.Event.TheVariants as event
 use Rattle.stats.proofs.Fields.{nothing}
 use Rattle.request.specs.declared.StunRequestState.{StunRequestState}
 use Rattle.requests.specs.Search.{lookup, request_of}
-use Rattle.requests.specs.declared.Found.{Found}
-use Rattle.requests.specs.declared.Found.TheVariants.{At, Nothing}
 use Rattle.requests.proofs.Lists.{apart}
 use Rattle.requests.proofs.Search.{lookup_taken, lookup_taken_other}
 use Rattle.peers.specs.Peers.{listed}
@@ -38,7 +35,7 @@ use Rattle.model.specs.World.{World, StateFormed, known}
 use Rattle.model.specs.Calls.{receives, Kind, carries}
 use Rattle.model.specs.Accepts.{is_found, is_response, accepts, validated, new_peer}
 use Rattle.model.specs.Refusals.{refusal_of}
-use Rattle.model.specs.Effects.{Change, keeps, removes, answered, changed, change_of, answer_of, event_of, mark_after, peers_after, peer_count, after_by, after}
+use Rattle.model.specs.Effects.{Change, keeps, removes, answered, changed, change_of, answer_of, event_of, mark_after, peers_after, peer_count, after}
 use Rattle.model.specs.Says.{Said, says_of}
 use Rattle.model.specs.declared.Answer.TheVariants as answer
 use Rattle.model.proofs.Refused.{passed_exactly, refused_same, passed_does}
@@ -51,27 +48,27 @@ module _ (l : List StunRequestState) (from : Address) (x : Message) where
   unfolding accepts
   plain_accepted e = rw e
 
-  pub answer_accepted : is_response x.class ≡ true → (f : Found) → lookup (key x.transaction_id) l ≡ f → accepts l from x ≡ is_found f
+  pub answer_accepted : is_response x.class ≡ true → (f : Option (ℕ × StunRequestState)) → lookup (key x.transaction_id) l ≡ f → accepts l from x ≡ is_found f
   unfolding accepts
   answer_accepted e f g = rw (e, g)
 
   pub plain_change : is_response x.class ≡ false → answered l from x ≡ keeps
   plain_change e = rw (plain_accepted e, e)
 
-  pub found_change : is_response x.class ≡ true → (i : ℕ) (q : StunRequestState) → lookup (key x.transaction_id) l ≡ At i q → answered l from x ≡ removes i
-  found_change e i q g = rw (answer_accepted e (At i q) g, e, g)
+  pub found_change : is_response x.class ≡ true → (i : ℕ) (q : StunRequestState) → lookup (key x.transaction_id) l ≡ Some (i, q) → answered l from x ≡ removes i
+  found_change e i q g = rw (answer_accepted e (Some (i, q)) g, e, g)
 
-  pub none_change : is_response x.class ≡ true → lookup (key x.transaction_id) l ≡ Nothing → answered l from x ≡ keeps
-  none_change e g = rw (answer_accepted e Nothing g)
+  pub none_change : is_response x.class ≡ true → lookup (key x.transaction_id) l ≡ None → answered l from x ≡ keeps
+  none_change e g = rw (answer_accepted e None g)
 
   -- An accepted response has its request.
   pub response_found : accepts l from x ≡ true → is_response x.class ≡ true
-      → (i : ℕ) × (r : StunRequestState) × (lookup (key x.transaction_id) l ≡ At i r)
+      → (i : ℕ) × (r : StunRequestState) × (lookup (key x.transaction_id) l ≡ Some (i, r))
   response_found taken response = go (lookup (key x.transaction_id) l) refl
     where
-      go : (f : Found) → lookup (key x.transaction_id) l ≡ f → (i : ℕ) × (r : StunRequestState) × (f ≡ At i r)
-      go (At i r) e = (i, r, refl)
-      go Nothing e = apart (sym taken ∙ answer_accepted response Nothing e)
+      go : (f : Option (ℕ × StunRequestState)) → lookup (key x.transaction_id) l ≡ f → (i : ℕ) × (r : StunRequestState) × (f ≡ Some (i, r))
+      go (Some (i, r)) e = (i, r, refl)
+      go None e = apart (sym taken ∙ answer_accepted response None e)
 
 -- The same world at another clock mark.
 abbrev pub marked : ℕ → World → World
@@ -90,7 +87,7 @@ marked mark w = record {
   stats = w.stats;
 }
 
-module _ (rows : ℕ) (w : World) (from : Address) (clock : Option ℕ) (m : List ℕ) (x : Message) (reads : message_of m ≡ Good x) where
+module _ (rows : ℕ) (w : World) (from : Address) (clock : Option ℕ) (m : List ℕ) (x : Message) (reads : message_of m ≡ Some x) where
   -- ---- not accepted
 
   module _ (no : accepts w.requests from x ≡ false) where
@@ -98,17 +95,13 @@ module _ (rows : ℕ) (w : World) (from : Address) (clock : Option ℕ) (m : Lis
     unfolding change_of
     no_change = rw (reads, no)
 
-    no_peer_lem : new_peer w (carries (receives from clock)) m ≡ none
+    no_peer_lem : new_peer w (carries (receives from clock)) m ≡ None
     unfolding new_peer
     no_peer_lem = rw (reads, no)
 
     no_event : event_of w (carries (receives from clock)) m ≡ event.Nothing
     unfolding event_of
-    no_event = rw (reads, no) (go w.agent.stats)
-      where
-        go : (b : Bool) → cond b event.Nothing event.Nothing ≡ event.Nothing
-        go true = refl
-        go false = refl
+    no_event = grind (arith, common_steps, reads, no)
 
     says_no : answer_of rows w (carries (receives from clock)) m ≡ answer.No
     unfolding answer_of
@@ -117,29 +110,17 @@ module _ (rows : ℕ) (w : World) (from : Address) (clock : Option ℕ) (m : Lis
     same_but_mark : after rows w (carries (receives from clock)) m ≡ marked (mark_after w (carries (receives from clock))) w
     unfolding after
     same_but_mark =
-        ap (after_by rows w (carries (receives from clock)) m) no_change
-        ∙ (λ i. record {
-          agent = record {
-            transport = w.agent.transport;
-            stats = w.agent.stats;
-            rto = w.agent.rto;
-            mark = mark_after w (carries (receives from clock));
-            requests = w.agent.requests;
-            peers = (peers_same w (carries (receives from clock)) m no_peer_lem).1 i;
-          };
-          requests = w.requests;
-          store = w.store;
-          peers = (peers_same w (carries (receives from clock)) m no_peer_lem).0 i;
-          stats = (ap (λ (v : Event). counted v w.stats) no_event ∙ sym (nothing w.stats)) i;
-        })
+        let peers = peers_same w (carries (receives from clock)) m no_peer_lem in
+        let stats = nothing w.stats in
+        rw (no_change, no_event) cc
 
     -- "If not outstanding: not accepted, only the clock mark moves."
-    pub not_accepted : refusal_of rows w (carries (receives from clock)) m ≡ 0 → says_of rows w (carries (receives from clock)) m ≡ record { answer = answer.No; world = marked (mark_after w (carries (receives from clock))) w }
-    not_accepted e = passed_does rows w (carries (receives from clock)) m e ∙ (λ i. record { answer = says_no i; world = same_but_mark i })
+    pub not_accepted : refusal_of rows w (carries (receives from clock)) m ≡ None → says_of rows w (carries (receives from clock)) m ≡ record { answer = answer.No; world = marked (mark_after w (carries (receives from clock))) w }
+    not_accepted e = rw (passed_does rows w (carries (receives from clock)) m e, says_no, same_but_mark)
 
   -- ---- accepted
 
-  module _ (yes : accepts w.requests from x ≡ true) (passed : refusal_of rows w (carries (receives from clock)) m ≡ 0) where
+  module _ (yes : accepts w.requests from x ≡ true) (passed : refusal_of rows w (carries (receives from clock)) m ≡ None) where
     says_yes : answer_of rows w (carries (receives from clock)) m ≡ answer.Yes
     unfolding answer_of
     says_yes = rw (reads, yes)
@@ -153,12 +134,12 @@ module _ (rows : ℕ) (w : World) (from : Address) (clock : Option ℕ) (m : Lis
         ap (λ (s : Said). s.world.requests) (passed_does rows w (carries (receives from clock)) m passed) ∙ ap (λ (d : Change). changed w.agent.transport d w.requests) e
 
     -- "A received response takes its request out if the identifier is outstanding, whatever address it came from."
-    module _ (i : ℕ) (r : StunRequestState) (response : is_response x.class ≡ true) (found : lookup (key x.transaction_id) w.requests ≡ At i r) where
+    module _ (i : ℕ) (r : StunRequestState) (response : is_response x.class ≡ true) (found : lookup (key x.transaction_id) w.requests ≡ Some (i, r)) where
       takes : change_of rows w (carries (receives from clock)) m ≡ removes i
       unfolding change_of
       takes = rw (reads, yes, response, found)
 
-      pub response_taken : StateFormed rows w → lookup (key x.transaction_id) (says_of rows w (carries (receives from clock)) m).world.requests ≡ Nothing
+      pub response_taken : StateFormed rows w → lookup (key x.transaction_id) (says_of rows w (carries (receives from clock)) m).world.requests ≡ None
       response_taken formed =
           ap (lookup (key x.transaction_id)) (after_change (removes i) takes)
           ∙ lookup_taken (key x.transaction_id) i r w.requests found formed.requests.order
@@ -180,52 +161,44 @@ module _ (rows : ℕ) (w : World) (from : Address) (clock : Option ℕ) (m : Lis
 
 listed_last : (a : Address) (l : List Address) → listed a (l ++ (a ∷ [])) ≡ true
 listed_last a [] = rw (same_refl a)
-listed_last a (p ∷ ps) = go (same_address p a) (listed_last a ps)
-  where
-    go : (b : Bool) → listed a (ps ++ (a ∷ [])) ≡ true → (b || listed a (ps ++ (a ∷ []))) ≡ true
-    go true h = refl
-    go false h = h
+listed_last a (p ∷ ps) = let h = listed_last a ps in grind (arith, common_steps)
 
 listed_more : (a b : Address) (l : List Address) → listed a l ≡ true → listed a (l ++ (b ∷ [])) ≡ true
-listed_more a b [] h = apart (sym h)
-listed_more a b (p ∷ ps) h = go (same_address p a) h (listed_more a b ps)
-  where
-    go : (t : Bool) → (t || listed a ps) ≡ true → (listed a ps ≡ true → listed a (ps ++ (b ∷ [])) ≡ true) → (t || listed a (ps ++ (b ∷ []))) ≡ true
-    go true h ih = refl
-    go false h ih = ih h
+listed_more a b [] h = absurd cc
+listed_more a b (p ∷ ps) h = let more = listed_more a b ps in grind (arith, common_steps, more)
 
 module _ (rows : ℕ) (w : World) (k : Kind) (m : List ℕ) where
   -- the peers after a call: those before it, and the new one
-  with_new : (b : Address) → refusal_of rows w k m ≡ 0 → new_peer w k m ≡ some b
+  with_new : (b : Address) → refusal_of rows w k m ≡ None → new_peer w k m ≡ Some b
       → take (peer_count w k m) (peers_after w k m) ≡ take w.agent.peers w.peers ++ (b ∷ [])
   with_new b passed e =
       let j = peer_joined w k m b e in
       rw (j.0, j.1, add-one) (take-suc-set w.peers w.agent.peers b (peer_fits rows w k m ((passed_exactly rows w k m).0 passed) b e))
 
-  without_new : new_peer w k m ≡ none → take (peer_count w k m) (peers_after w k m) ≡ take w.agent.peers w.peers
+  without_new : new_peer w k m ≡ None → take (peer_count w k m) (peers_after w k m) ≡ take w.agent.peers w.peers
   without_new e = let s = peers_same w k m e in rw (s.0, s.1)
 
-  known_after : refusal_of rows w k m ≡ 0 → (a : Address) → known (says_of rows w k m).world a ≡ listed a (take (peer_count w k m) (peers_after w k m))
+  known_after : refusal_of rows w k m ≡ None → (a : Address) → known (says_of rows w k m).world a ≡ listed a (take (peer_count w k m) (peers_after w k m))
   unfolding after
   known_after passed a = ap (λ (s : Said). known s.world a) (passed_does rows w k m passed)
 
   pub known_kept : (a : Address) → known w a ≡ true → known (says_of rows w k m).world a ≡ true
   known_kept a h = go (refusal_of rows w k m) refl
     where
-      by_peer : refusal_of rows w k m ≡ 0 → (o : Option Address) → new_peer w k m ≡ o → listed a (take (peer_count w k m) (peers_after w k m)) ≡ true
-      by_peer passed none e = rw (without_new e) h
-      by_peer passed (some b) e = rw (with_new b passed e) (listed_more a b (take w.agent.peers w.peers) h)
+      by_peer : refusal_of rows w k m ≡ None → (o : Option Address) → new_peer w k m ≡ o → listed a (take (peer_count w k m) (peers_after w k m)) ≡ true
+      by_peer passed None e = rw (without_new e) h
+      by_peer passed (Some b) e = rw (with_new b passed e) (listed_more a b (take w.agent.peers w.peers) h)
 
-      go : (n : ℕ) → refusal_of rows w k m ≡ n → known (says_of rows w k m).world a ≡ true
-      go zero e = known_after e a ∙ by_peer e (new_peer w k m) refl
-      go (suc n) e = ap (λ (s : Said). known s.world a) (refused_same rows w k m n e) ∙ h
+      go : (o : Option Refusal) → refusal_of rows w k m ≡ o → known (says_of rows w k m).world a ≡ true
+      go None e = known_after e a ∙ by_peer e (new_peer w k m) refl
+      go (Some q) e = ap (λ (s : Said). known s.world a) (refused_same rows w k m q e) ∙ h
 
-  new_peer_lem : (a : Address) → validated w k m ≡ some a → known w a ≡ false → new_peer w k m ≡ some a
+  new_peer_lem : (a : Address) → validated w k m ≡ Some a → known w a ≡ false → new_peer w k m ≡ Some a
   unfolding new_peer
   new_peer_lem a v e = rw (v, e)
 
   -- whoever is to be validated is a peer afterwards
-  pub validated_known : (a : Address) → refusal_of rows w k m ≡ 0 → validated w k m ≡ some a → known (says_of rows w k m).world a ≡ true
+  pub validated_known : (a : Address) → refusal_of rows w k m ≡ None → validated w k m ≡ Some a → known (says_of rows w k m).world a ≡ true
   validated_known a passed v = go (known w a) refl
     where
       go : (b : Bool) → known w a ≡ b → known (says_of rows w k m).world a ≡ true
@@ -233,8 +206,8 @@ module _ (rows : ℕ) (w : World) (k : Kind) (m : List ℕ) where
       go false e = known_after passed a ∙ rw (with_new a passed (new_peer_lem a v e)) (listed_last a (take w.agent.peers w.peers))
 
 -- "Every accepted message validates its sender."
-pub sender_validated : (rows : ℕ) (w : World) (from : Address) (clock : Option ℕ) (m : List ℕ) (x : Message) → message_of m ≡ Good x
-    → accepts w.requests from x ≡ true → refusal_of rows w (carries (receives from clock)) m ≡ 0
+pub sender_validated : (rows : ℕ) (w : World) (from : Address) (clock : Option ℕ) (m : List ℕ) (x : Message) → message_of m ≡ Some x
+    → accepts w.requests from x ≡ true → refusal_of rows w (carries (receives from clock)) m ≡ None
     → known (says_of rows w (carries (receives from clock)) m).world from ≡ true
 sender_validated rows w from clock m x reads taken passed =
     validated_known rows w (carries (receives from clock)) m from passed (rw (reads, taken))

@@ -1,7 +1,6 @@
 -- The calls in five classes, by what they are about: a message, the passing of time, one request, a peer, the statistics. The tests and
 -- effects of the model are functions of the class.
-use Rattle.std.specs.Prelude.{ℕ, ◌^◌}
-use Rattle.std.proofs.Math.Option.{Option, none, some}
+use Rattle.std.specs.Prelude.{ℕ, ◌^◌, Option, None, Some}
 use Rattle.address.specs.declared.Address.{Address}
 use Rattle.message.specs.declared.TransactionId.{TransactionId}
 use Rattle.waits.specs.declared.RequestRto.{RequestRto}
@@ -52,8 +51,8 @@ short_form initial retransmits last = record { initial = initial; max = 2 ^ 61; 
 abbrev pub kind_of : Call → Kind
 kind_of (call.SendRequest to now) = carries (submits to now)
 kind_of (call.Send to) = carries (sends to)
-kind_of (call.HandleStunMessageWithTime from now) = carries (receives from (some now))
-kind_of (call.HandleStunMessage from) = carries (receives from none)
+kind_of (call.HandleStunMessageWithTime from now) = carries (receives from (Some now))
+kind_of (call.HandleStunMessage from) = carries (receives from None)
 kind_of (call.PollTransmit now) = scans transmits now
 kind_of (call.Poll now) = scans reports now
 kind_of (call.CancelRetransmissions id) = names id silence
@@ -70,38 +69,38 @@ kind_of call.Reset = counts anew
 
 -- The clock that a call carries.
 abbrev pub passage_clock : Passage → Option ℕ
-passage_clock (submits to now) = some now
-passage_clock (sends to) = none
+passage_clock (submits to now) = Some now
+passage_clock (sends to) = None
 passage_clock (receives from clock) = clock
 
 abbrev pub clock_of : Kind → Option ℕ
 clock_of (carries p) = passage_clock p
-clock_of (scans s now) = some now
-clock_of (names id wish) = none
-clock_of (meets addr m) = none
-clock_of (counts f) = none
+clock_of (scans s now) = Some now
+clock_of (names id wish) = None
+clock_of (meets addr m) = None
+clock_of (counts f) = None
 
 -- The settings that it carries.
 abbrev pub wish_settings : Wish → Option RequestRto
-wish_settings silence = none
-wish_settings cancel = none
-wish_settings (configure rto) = some rto
-wish_settings query = none
+wish_settings silence = None
+wish_settings cancel = None
+wish_settings (configure rto) = Some rto
+wish_settings query = None
 
 abbrev pub settings_of : Kind → Option RequestRto
-settings_of (carries p) = none
-settings_of (scans s now) = none
+settings_of (carries p) = None
+settings_of (scans s now) = None
 settings_of (names id wish) = wish_settings wish
-settings_of (meets addr m) = none
-settings_of (counts f) = none
+settings_of (meets addr m) = None
+settings_of (counts f) = None
 
 -- The identifier that it names.
 abbrev pub id_of : Kind → Option TransactionId
-id_of (carries p) = none
-id_of (scans s now) = none
-id_of (names id wish) = some id
-id_of (meets addr m) = none
-id_of (counts f) = none
+id_of (carries p) = None
+id_of (scans s now) = None
+id_of (names id wish) = Some id
+id_of (meets addr m) = None
+id_of (counts f) = None
 
 -- The address that it carries.
 abbrev pub passage_address : Passage → Address
@@ -110,29 +109,29 @@ passage_address (sends to) = to
 passage_address (receives from clock) = from
 
 abbrev pub address_of : Kind → Option Address
-address_of (carries p) = some (passage_address p)
-address_of (scans s now) = none
-address_of (names id wish) = none
-address_of (meets addr m) = some addr
-address_of (counts f) = none
+address_of (carries p) = Some (passage_address p)
+address_of (scans s now) = None
+address_of (names id wish) = None
+address_of (meets addr m) = Some addr
+address_of (counts f) = None
 
 -- How its message passes.
 abbrev pub passage_of : Kind → Option Passage
-passage_of (carries p) = some p
-passage_of (scans s now) = none
-passage_of (names id wish) = none
-passage_of (meets addr m) = none
-passage_of (counts f) = none
+passage_of (carries p) = Some p
+passage_of (scans s now) = None
+passage_of (names id wish) = None
+passage_of (meets addr m) = None
+passage_of (counts f) = None
 
 -- What it asks of the statistics.
 abbrev pub figure_of : Kind → Option Figure
-figure_of (carries p) = none
-figure_of (scans s now) = none
-figure_of (names id wish) = none
-figure_of (meets addr m) = none
-figure_of (counts f) = some f
+figure_of (carries p) = None
+figure_of (scans s now) = None
+figure_of (names id wish) = None
+figure_of (meets addr m) = None
+figure_of (counts f) = Some f
 
 -- A choice by what may be absent.
 abbrev pub on_some : {A B : Type 0} → Option A → B → (A → B) → B
-on_some none b f = b
-on_some (some a) b f = f a
+on_some None b f = b
+on_some (Some a) b f = f a

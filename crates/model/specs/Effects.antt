@@ -1,7 +1,6 @@
 -- What a call does that isn't refused: document 01, "Waits and one request" and "The agent". Answer, requests, event, store and peers
 -- apart; `after` puts them together.
-use Rattle.std.specs.Prelude.{ℕ, ◌+◌, ◌-◌, Bool, cond, List, length, set}
-use Rattle.std.proofs.Math.Option.{Option, none, some}
+use Rattle.std.specs.Prelude.{ℕ, ◌+◌, ◌-◌, Bool, cond, List, length, set, Option, None, Some}
 use Rattle.rows.specs.Lists.{remove_at}
 use Rattle.address.specs.declared.Address.{Address}
 use Rattle.message.specs.Head.{key}
@@ -12,8 +11,6 @@ use Rattle.message.specs.declared.Message.{Message}
 use Rattle.waits.specs.declared.Transport.{Transport}
 use Rattle.stats.specs.Count.{counted}
 use Rattle.stats.specs.Query.{average_of, outstanding_of, outstanding_count}
-use Rattle.stats.specs.declared.Rtt.{Rtt}
-use Rattle.stats.specs.declared.Rtt.TheVariants.{Absent}
 use Rattle.stats.specs.declared.Event.{Event}
 use Rattle.stats.specs.declared.Event.TheVariants as event
 use Rattle.store.specs.Rows.{copied}
@@ -22,12 +19,6 @@ use Rattle.request.specs.Request.{submitted, silenced, cancelled, configured}
 use Rattle.request.specs.declared.StunRequestState.{StunRequestState}
 use Rattle.requests.specs.Search.{lookup, added, free_row}
 use Rattle.requests.specs.Scan.{walk, poll_all}
-use Rattle.requests.specs.declared.Found.{Found}
-use Rattle.requests.specs.declared.Found.TheVariants.{At, Nothing}
-use Rattle.requests.specs.declared.FreeRow.{FreeRow}
-use Rattle.requests.specs.declared.FreeRow.TheVariants.{Row, Full}
-use Rattle.requests.specs.declared.Transmitted.{Transmitted}
-use Rattle.requests.specs.declared.Transmitted.TheVariants.{Sends, Quiet}
 use Rattle.requests.specs.declared.Polled.{Polled}
 use Rattle.requests.specs.declared.Polled.TheVariants.{TimedOut, Cancelled, WaitUntil}
 use Rattle.model.specs.World.{World, known}
@@ -38,13 +29,13 @@ use Rattle.model.specs.declared.Answer.{Answer}
 use Rattle.model.specs.declared.Answer.TheVariants as answer
 
 -- A choice by the request that was found, with its place, and by the row that is free.
-abbrev pub on_found : {B : Type 0} → Found → B → (ℕ → StunRequestState → B) → B
-on_found (At place r) b f = f place r
-on_found Nothing b f = b
+abbrev pub on_found : {B : Type 0} → Option (ℕ × StunRequestState) → B → (ℕ → StunRequestState → B) → B
+on_found (Some (place, r)) b f = f place r
+on_found None b f = b
 
-abbrev pub on_row : {B : Type 0} → FreeRow → B → (ℕ → B) → B
-on_row (Row row) b f = f row
-on_row Full b f = b
+abbrev pub on_row : {B : Type 0} → Option ℕ → B → (ℕ → B) → B
+on_row (Some row) b f = f row
+on_row None b f = b
 
 -- ---- the outstanding requests
 
@@ -73,11 +64,11 @@ count_after (steps now) n = n
 -- The request that `send_request` adds: it "takes the lowest free" row, and has the agent's settings.
 unfoldable pub new_request : ℕ → World → Address → ℕ → List ℕ → Option StunRequestState
 new_request rows w to now m =
-    on_message (message_of m) none (λ x.
-    on_row (free_row rows w.requests) none (λ row.
-    some (submitted now x.transaction_id x.integrity row (length m) to w.agent.rto)))
+    on_message (message_of m) None (λ x.
+    on_row (free_row rows w.requests) None (λ row.
+    Some (submitted now x.transaction_id x.integrity row (length m) to w.agent.rto)))
 
-abbrev pub taken : Found → Change
+abbrev pub taken : Option (ℕ × StunRequestState) → Change
 taken f = on_found f keeps (λ place r. removes place)
 
 -- "A received response takes its request out if the identifier is outstanding"; "if not outstanding: not accepted". A received request
@@ -130,9 +121,9 @@ passage_answer rows w m (sends to) = answer.Ok
 passage_answer rows w m (receives from clock) =
     on_message (message_of m) answer.No (λ x. yes_or_no (accepts w.requests from x))
 
-abbrev pub transmit_answer : Transmitted → Answer
-transmit_answer (Sends r) = handed_out r
-transmit_answer Quiet = answer.None
+abbrev pub transmit_answer : Option StunRequestState → Answer
+transmit_answer (Some r) = handed_out r
+transmit_answer None = answer.None
 
 abbrev pub poll_answer : Polled → Answer
 poll_answer (TimedOut place id) = answer.TimedOut id
@@ -177,10 +168,10 @@ sent_as n Success = event.ResponseSent n
 sent_as n Error = event.ResponseSent n
 
 -- "RTT is now minus last send, counted only with a clock and step count 0."
-abbrev pub rtt_at : Option ℕ → Found → Rtt
-rtt_at clock f = on_some clock Absent (λ now. on_found f Absent (λ place r. rtt_of now r))
+abbrev pub rtt_at : Option ℕ → Option (ℕ × StunRequestState) → Option ℕ
+rtt_at clock f = on_some clock None (λ now. on_found f None (λ place r. rtt_of now r))
 
-abbrev pub received_as : ℕ → Rtt → MessageClass → Event
+abbrev pub received_as : ℕ → Option ℕ → MessageClass → Event
 received_as n rtt Request = event.RequestReceived n
 received_as n rtt Indication = event.IndicationReceived n
 received_as n rtt Success = event.ResponseReceived n rtt
@@ -196,9 +187,9 @@ passage_event w m (receives from clock) =
     event.Nothing)
 
 -- "Later sends count bytes only."
-abbrev pub transmit_event : Transmitted → Event
-transmit_event (Sends r) = event.RetransmitBytes r.len
-transmit_event Quiet = event.Nothing
+abbrev pub transmit_event : Option StunRequestState → Event
+transmit_event (Some r) = event.RetransmitBytes r.len
+transmit_event None = event.Nothing
 
 -- "Cancelled counts when poll reports it."
 abbrev pub poll_event : Polled → Event

@@ -1,5 +1,7 @@
 -- A fresh agent, and what `build` answers: document 01, "The agent" and "Waits and one request".
-use Rattle.std.specs.Prelude.{ℕ, Bool, false, cond, List, []}
+use Rattle.model.specs.declared.Refusal.{Refusal}
+use Rattle.model.specs.declared.Refusal.TheVariants.{Settings}
+use Rattle.std.specs.Prelude.{ℕ, Bool, false, cond, List, [], Result, Ok, Err}
 use Rattle.address.specs.declared.Address.{Address}
 use Rattle.waits.specs.Waits.{default_rto, within_limits}
 use Rattle.waits.specs.declared.Transport.{Transport}
@@ -9,11 +11,8 @@ use Rattle.stats.specs.declared.StunAgentStats.{StunAgentStats}
 use Rattle.stats.specs.declared.Event.{Event}
 use Rattle.stats.specs.declared.Event.TheVariants as event
 use Rattle.model.specs.World.{World}
-use Rattle.model.specs.Refusals.{SETTINGS, number_of}
 use Rattle.model.specs.declared.StunAgent.{StunAgent}
 use Rattle.model.specs.declared.StunAgentBuilder.{StunAgentBuilder}
-use Rattle.model.specs.declared.Built.{Built}
-use Rattle.model.specs.declared.Built.TheVariants.{Refused, Fresh}
 
 -- A builder of the transport, with all else left unset: "default: initial 500 ms, no maximum, R = 7, final wait 8,000 ms"; no statistics.
 abbrev pub unset : Transport → StunAgentBuilder
@@ -36,8 +35,8 @@ fresh t stats rto store peers st = record {
 }
 
 -- `build`: refused by 2, or a fresh agent with the event that zeroes the record.
-unfoldable pub build_of : StunAgentBuilder → Built
+unfoldable pub build_of : StunAgentBuilder → Result (StunAgent × Event) Refusal
 build_of b =
     cond (within_limits b.rto)
-    (Fresh (fresh_agent b.transport b.stats b.rto) (fresh_event b.stats))
-    (Refused (number_of SETTINGS))
+    (Ok (fresh_agent b.transport b.stats b.rto, fresh_event b.stats))
+    (Err Settings)

@@ -1,46 +1,32 @@
 -- When a call is refused, and by which number: document 01, "Refusal numbers". Each predicate says what the table's line says and
 -- nothing of the others; "where several apply, the lowest number is answered".
-use Rattle.std.specs.Prelude.{ℕ, ◌^◌, Bool, true, false, cond, not, ◌&&◌, ◌||◌, List, [], ◌∷◌, leb, ltb, length}
+use Rattle.model.specs.declared.Refusal.{Refusal}
+use Rattle.model.specs.declared.Refusal.TheVariants.{State, Settings, Clock, TooLong, BadMessage, WrongClass, InProgress, TableFull, NoRequest, PeersFull, NoStats, Counts}
+use Rattle.std.specs.Prelude.{ℕ, ◌^◌, Bool, true, false, cond, not, ◌&&◌, ◌||◌, List, [], ◌∷◌, leb, ltb, length, Option, None, Some, is_none}
 use Rattle.message.specs.Attributes.{message_of}
 use Rattle.message.specs.declared.MessageClass.{MessageClass}
 use Rattle.message.specs.declared.MessageClass.TheVariants.{Request, Indication, Success, Error}
 use Rattle.waits.specs.Waits as waits
 use Rattle.stats.specs.Query.{outstanding_of}
-use Rattle.stats.specs.declared.Outstanding.{Outstanding}
-use Rattle.stats.specs.declared.Outstanding.TheVariants.{Count, BelowZero}
 use Rattle.model.specs.World.{World, state_formed}
 use Rattle.model.specs.Calls.{Passage, submits, sends, receives, Figure, numbers, mean, unsettled, anew, Kind, kind_of, clock_of, settings_of, id_of, passage_of, figure_of, on_some}
 use Rattle.model.specs.Accepts.{on_message, is_outstanding, new_peer}
 use Rattle.model.specs.declared.Call.{Call}
 
--- Document 01's names, and the number of each.
-pub data Refusal : Type 0 where
-  STATE : Refusal
-  SETTINGS : Refusal
-  CLOCK : Refusal
-  TOO_LONG : Refusal
-  BAD_MESSAGE : Refusal
-  WRONG_CLASS : Refusal
-  IN_PROGRESS : Refusal
-  TABLE_FULL : Refusal
-  NO_REQUEST : Refusal
-  PEERS_FULL : Refusal
-  NO_STATS : Refusal
-  COUNTS : Refusal
-
+-- The number that document 01 gives each.
 abbrev pub number_of : Refusal → ℕ
-number_of STATE = 1
-number_of SETTINGS = 2
-number_of CLOCK = 3
-number_of TOO_LONG = 4
-number_of BAD_MESSAGE = 5
-number_of WRONG_CLASS = 6
-number_of IN_PROGRESS = 7
-number_of TABLE_FULL = 8
-number_of NO_REQUEST = 9
-number_of PEERS_FULL = 10
-number_of NO_STATS = 11
-number_of COUNTS = 12
+number_of State = 1
+number_of Settings = 2
+number_of Clock = 3
+number_of TooLong = 4
+number_of BadMessage = 5
+number_of WrongClass = 6
+number_of InProgress = 7
+number_of TableFull = 8
+number_of NoRequest = 9
+number_of PeersFull = 10
+number_of NoStats = 11
+number_of Counts = 12
 
 -- 1: "store too short, peer count above the lent list, or a state not well formed"
 abbrev pub bad_state : ℕ → World → Bool
@@ -110,47 +96,43 @@ is_unsettled mean = false
 is_unsettled unsettled = true
 is_unsettled anew = false
 
-abbrev pub is_below_zero : Outstanding → Bool
-is_below_zero (Count n) = false
-is_below_zero BelowZero = true
-
 -- 12: "the query for the outstanding count finds it below zero"
 abbrev pub bad_counts : World → Kind → Bool
-bad_counts w k = on_some (figure_of k) false (λ f. is_unsettled f && is_below_zero (outstanding_of w.stats))
+bad_counts w k = on_some (figure_of k) false (λ f. is_unsettled f && is_none (outstanding_of w.stats))
 
 -- The table.
 abbrev pub holds : ℕ → World → Kind → List ℕ → Refusal → Bool
-holds rows w k m STATE = bad_state rows w
-holds rows w k m SETTINGS = bad_settings k
-holds rows w k m CLOCK = bad_clock w k
-holds rows w k m TOO_LONG = too_long k m
-holds rows w k m BAD_MESSAGE = bad_message k m
-holds rows w k m WRONG_CLASS = wrong_class k m
-holds rows w k m IN_PROGRESS = in_progress w k m
-holds rows w k m TABLE_FULL = table_full rows w k
-holds rows w k m NO_REQUEST = no_request w k
-holds rows w k m PEERS_FULL = peers_full w k m
-holds rows w k m NO_STATS = no_stats w k
-holds rows w k m COUNTS = bad_counts w k
+holds rows w k m State = bad_state rows w
+holds rows w k m Settings = bad_settings k
+holds rows w k m Clock = bad_clock w k
+holds rows w k m TooLong = too_long k m
+holds rows w k m BadMessage = bad_message k m
+holds rows w k m WrongClass = wrong_class k m
+holds rows w k m InProgress = in_progress w k m
+holds rows w k m TableFull = table_full rows w k
+holds rows w k m NoRequest = no_request w k
+holds rows w k m PeersFull = peers_full w k m
+holds rows w k m NoStats = no_stats w k
+holds rows w k m Counts = bad_counts w k
 
 -- In ascending order of their numbers: all of them, and those behind the test of the state.
 abbrev pub past_state : List Refusal
-past_state = SETTINGS ∷ CLOCK ∷ TOO_LONG ∷ BAD_MESSAGE ∷ WRONG_CLASS ∷ IN_PROGRESS ∷ TABLE_FULL ∷ NO_REQUEST ∷ PEERS_FULL ∷ NO_STATS ∷ COUNTS ∷ []
+past_state = Settings ∷ Clock ∷ TooLong ∷ BadMessage ∷ WrongClass ∷ InProgress ∷ TableFull ∷ NoRequest ∷ PeersFull ∷ NoStats ∷ Counts ∷ []
 
 abbrev pub refusals : List Refusal
-refusals = STATE ∷ past_state
+refusals = State ∷ past_state
 
--- The number of the first whose test holds, or 0.
-abbrev pub lowest : (Refusal → Bool) → List Refusal → ℕ
-lowest test [] = 0
-lowest test (r ∷ rs) = cond (test r) (number_of r) (lowest test rs)
+-- The first whose test holds.
+abbrev pub lowest : (Refusal → Bool) → List Refusal → Option Refusal
+lowest test [] = None
+lowest test (r ∷ rs) = cond (test r) (Some r) (lowest test rs)
 
--- The number that a call is refused by, 0 for none; and the same behind the test of the state.
-unfoldable pub refusal_of : ℕ → World → Kind → List ℕ → ℕ
+-- What a call is refused by, if it is; and the same behind the test of the state.
+unfoldable pub refusal_of : ℕ → World → Kind → List ℕ → Option Refusal
 refusal_of rows w k m = lowest (holds rows w k m) refusals
 
-unfoldable pub refusal_past : ℕ → World → Kind → List ℕ → ℕ
+unfoldable pub refusal_past : ℕ → World → Kind → List ℕ → Option Refusal
 refusal_past rows w k m = lowest (holds rows w k m) past_state
 
-abbrev pub refusal : ℕ → World → Call → List ℕ → ℕ
+abbrev pub refusal : ℕ → World → Call → List ℕ → Option Refusal
 refusal rows w c m = refusal_of rows w (kind_of c) m

@@ -1,5 +1,6 @@
 -- What every call answers and leaves: document 01, "Refusal numbers".
-use Rattle.std.specs.Prelude.{ℕ, zero, suc, List}
+use Rattle.model.specs.declared.Refusal.{Refusal}
+use Rattle.std.specs.Prelude.{ℕ, None, List, Option, Some}
 use Rattle.model.specs.World.{World}
 use Rattle.model.specs.Calls.{Kind, kind_of}
 use Rattle.model.specs.Refusals.{refusal_of}
@@ -13,26 +14,26 @@ pub record Said : Type 0 where
   pub answer : Answer
   pub world : World
 
--- Document 01's refusal number in an answer, 0 for an answer of a call that wasn't refused.
-abbrev pub number_in : Answer → ℕ
-number_in (answer.Refused n) = n
-number_in answer.Ok = 0
-number_in answer.Yes = 0
-number_in answer.No = 0
-number_in answer.None = 0
-number_in (answer.Send id to row len) = 0
-number_in (answer.Wait clock) = 0
-number_in (answer.TimedOut id) = 0
-number_in (answer.Cancelled id) = 0
-number_in (answer.Stats st) = 0
-number_in (answer.Average rtt) = 0
-number_in (answer.Outstanding n) = 0
-number_in (answer.Request to integrity) = 0
+-- The refusal in an answer, none in an answer of a call that wasn't refused.
+abbrev pub refused_by : Answer → Option Refusal
+refused_by (answer.Refused q) = Some q
+refused_by answer.Ok = None
+refused_by answer.Yes = None
+refused_by answer.No = None
+refused_by answer.None = None
+refused_by (answer.Send id to row len) = None
+refused_by (answer.Wait clock) = None
+refused_by (answer.TimedOut id) = None
+refused_by (answer.Cancelled id) = None
+refused_by (answer.Stats st) = None
+refused_by (answer.Average rtt) = None
+refused_by (answer.Outstanding n) = None
+refused_by (answer.Request to integrity) = None
 
 -- "A refused call answers its number and leaves state, statistics, store and peers unchanged, the clock mark included."
-abbrev pub decided : ℕ → World → Said → Said
-decided zero w done = done
-decided (suc n) w done = record { answer = answer.Refused (suc n); world = w }
+abbrev pub decided : Option Refusal → World → Said → Said
+decided None w done = done
+decided (Some q) w done = record { answer = answer.Refused q; world = w }
 
 unfoldable pub says_of : ℕ → World → Kind → List ℕ → Said
 says_of rows w k m = decided (refusal_of rows w k m) w (record { answer = answer_of rows w k m; world = after rows w k m })

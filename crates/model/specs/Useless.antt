@@ -1,4 +1,5 @@
 -- Document 01, "What the statements have to shut out": builds that would be useless, whatever else they do.
+use Rattle.model.specs.declared.Refusal.{Refusal}
 use Rattle.std.specs.Prelude.{ℕ, ◌≡◌, true, List}
 use Rattle.address.specs.declared.Address.{Address}
 use Rattle.message.specs.declared.TransactionId.{TransactionId}
@@ -26,7 +27,7 @@ counting = start 32 64 true (settings 500 2 8000)
 
 pub data Useless (b : Build) : Type 0 where
   -- "one that refuses everything"
-  refuses_everything : ((w : World) (c : Call) (m : List ℕ) → (n : ℕ) × ((b w c m).answer ≡ answer.Refused n)) → Useless b
+  refuses_everything : ((w : World) (c : Call) (m : List ℕ) → (q : Refusal) × ((b w c m).answer ≡ answer.Refused q)) → Useless b
   -- "one that always says wait"
   always_says_wait : ((w : World) (now : ℕ) (m : List ℕ) → (clock : ℕ) × ((b w (call.Poll now) m).answer ≡ answer.Wait clock)) → Useless b
   -- "or never sends"

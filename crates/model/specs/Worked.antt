@@ -1,15 +1,15 @@
 -- Worked values: worlds, messages and runs of calls, and what the model gives for them.
-use Rattle.std.specs.Prelude.{ℕ, ◌+◌, ◌*◌, ◌/◌, ◌%◌, ◌^◌, ◌≡◌, Bool, true, false, List, [], ◌∷◌, ◌++◌, length, take, replicate}
+use Rattle.model.specs.declared.Refusal.TheVariants.{State, Settings, Clock, TooLong, BadMessage, WrongClass, InProgress, TableFull, NoRequest, PeersFull, NoStats, Counts}
+use Rattle.message.specs.declared.IntegrityAlgorithm.TheVariants.{Sha1}
+use Rattle.std.specs.Prelude.{ℕ, ◌+◌, ◌*◌, ◌/◌, ◌%◌, ◌^◌, ◌≡◌, Bool, true, false, List, [], ◌∷◌, ◌++◌, length, take, replicate, None, Some}
 use Rattle.address.specs.declared.Address.{Address}
 use Rattle.address.specs.declared.Host.TheVariants.{V4}
 use Rattle.message.specs.declared.TransactionId.{TransactionId}
-use Rattle.message.specs.declared.Integrity.TheVariants.{None, Sha1}
 use Rattle.waits.specs.Waits.{milliseconds, default_rto}
 use Rattle.waits.specs.declared.RequestRto.{RequestRto}
 use Rattle.waits.specs.declared.Transport.TheVariants.{Udp, Tcp}
 use Rattle.stats.specs.Count.{zeroed}
 use Rattle.stats.specs.declared.StunAgentStats.{StunAgentStats}
-use Rattle.stats.specs.declared.Rtt.TheVariants.{Absent, Nanos}
 use Rattle.model.specs.World.{World}
 use Rattle.model.specs.Fresh.{fresh}
 use Rattle.model.specs.Parts.{transmission_of}
@@ -76,8 +76,8 @@ figures sent answered timed cancelled out into = record {
   bytes_sent = out;
   bytes_received = into;
   rtt_sum = 0;
-  rtt_min = Absent;
-  rtt_max = Absent;
+  rtt_min = None;
+  rtt_max = None;
   rtt_count = 0;
 }
 
@@ -143,7 +143,7 @@ pub record Values : Type 0 where
       ∷ [])
       ≡ (goes ∷ answer.None ∷ answer.Wait (milliseconds 39500) ∷ answer.TimedOut (ending 1) ∷ [])
   -- Each refusal, some where a higher one applies as well. Here with a store too short.
-  pub refused_state : answers 2 (start 1 0 false default_rto) (plain call.Stats ∷ plain (call.Poll (2 ^ 60 + 1)) ∷ []) ≡ (answer.Refused 1 ∷ answer.Refused 1 ∷ [])
+  pub refused_state : answers 2 (start 1 0 false default_rto) (plain call.Stats ∷ plain (call.Poll (2 ^ 60 + 1)) ∷ []) ≡ (answer.Refused State ∷ answer.Refused State ∷ [])
   pub refused :
       answers 1 (start 1 0 false default_rto) (
       plain (call.ConfigureTimeoutWithMax (ending 1) (settings 500 34 8000))
@@ -167,30 +167,30 @@ pub record Values : Type 0 where
       ∷ plain (call.RequestTransaction (ending 1))
       ∷ plain (call.Poll 5)
       ∷ [])
-      ≡ (answer.Refused 2
-      ∷ answer.Refused 9
-      ∷ answer.Refused 3
+      ≡ (answer.Refused Settings
+      ∷ answer.Refused NoRequest
+      ∷ answer.Refused Clock
       ∷ answer.None
-      ∷ answer.Refused 3
-      ∷ answer.Refused 4
-      ∷ answer.Refused 5
-      ∷ answer.Refused 6
-      ∷ answer.Refused 6
+      ∷ answer.Refused Clock
+      ∷ answer.Refused TooLong
+      ∷ answer.Refused BadMessage
+      ∷ answer.Refused WrongClass
+      ∷ answer.Refused WrongClass
       ∷ goes
-      ∷ answer.Refused 7
-      ∷ answer.Refused 8
-      ∷ answer.Refused 9
-      ∷ answer.Refused 10
+      ∷ answer.Refused InProgress
+      ∷ answer.Refused TableFull
+      ∷ answer.Refused NoRequest
+      ∷ answer.Refused PeersFull
       ∷ answer.No
-      ∷ answer.Refused 10
-      ∷ answer.Refused 11
-      ∷ answer.Refused 11
+      ∷ answer.Refused PeersFull
+      ∷ answer.Refused NoStats
+      ∷ answer.Refused NoStats
       ∷ answer.Request (peer 9) None
-      ∷ answer.Refused 3
+      ∷ answer.Refused Clock
       ∷ [])
   pub refused_counts :
       answers 1 (recorded (figures 1 1 1 0 0 0)) (plain call.OutstandingRequests ∷ plain call.Reset ∷ plain call.OutstandingRequests ∷ [])
-      ≡ (answer.Refused 12 ∷ answer.Ok ∷ answer.Outstanding 0 ∷ [])
+      ≡ (answer.Refused Counts ∷ answer.Ok ∷ answer.Outstanding 0 ∷ [])
   -- Cancelled retransmissions and cancel; peers; one request timed out, one cancelled, one answered with a round trip of 7.
   pub silenced :
       answers 1 (start 1 0 false (settings 500 2 8000)) (
@@ -208,7 +208,7 @@ pub record Values : Type 0 where
       ∷ plain (call.Poll (milliseconds 9000))
       ∷ plain (call.Cancel (ending 1))
       ∷ [])
-      ≡ (goes ∷ answer.Ok ∷ answer.Cancelled (ending 1) ∷ answer.Refused 9 ∷ [])
+      ≡ (goes ∷ answer.Ok ∷ answer.Cancelled (ending 1) ∷ answer.Refused NoRequest ∷ [])
   pub met :
       answers 1 (start 1 1 false default_rto) (
       plain (call.IsValidatedPeer (peer 7))
@@ -224,10 +224,10 @@ pub record Values : Type 0 where
       ∷ answer.Yes
       ∷ answer.Yes
       ∷ answer.Yes
-      ∷ answer.Refused 10
+      ∷ answer.Refused PeersFull
       ∷ answer.Send (ending 1) (peer 9) 0 24
       ∷ answer.Yes
-      ∷ answer.Request (peer 9) Sha1
+      ∷ answer.Request (peer 9) (Some Sha1)
       ∷ [])
   pub counted :
       answers 3 (start 3 1 true (settings 500 1 8000)) (
@@ -251,7 +251,7 @@ pub record Values : Type 0 where
       ∷ answer.Yes
       ∷ answer.Cancelled (ending 2)
       ∷ answer.TimedOut (ending 3)
-      ∷ answer.Average (Nanos 7)
+      ∷ answer.Average (Some 7)
       ∷ answer.Outstanding 0
       ∷ answer.Stats (record {
         requests_sent = 3;
@@ -265,8 +265,8 @@ pub record Values : Type 0 where
         bytes_sent = 60;
         bytes_received = 20;
         rtt_sum = 7;
-        rtt_min = Nanos 7;
-        rtt_max = Nanos 7;
+        rtt_min = Some 7;
+        rtt_max = Some 7;
         rtt_count = 1;
       })
       ∷ [])

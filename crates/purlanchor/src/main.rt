@@ -2,238 +2,154 @@
 // buffers. It takes the turns and puts the lines that the library's `replay` does, and is proved safe and ending.
 #![tactic(auto)]
 
-ghost use Rattle.std.specs.Prelude.{◌≤◌, length};
-ghost use Rattle.records.specs.Coding.{size};
+ghost use Rattle.std.specs.Prelude.{◌≡◌, ◌+◌, ◌≤◌, length, IfSome, Ok};
 
 use line::LONGEST_LINE;
+use model::Answer;
 use replay::Standing;
 use std::env::{Env, FillError};
+use std::fmt::Display;
 use std::fs::File;
 use std::io::{Input, Read};
 use std::rt::Files;
 use std::{io, str};
 
-// Where a replay stands behind a part of its input: the bytes of it that were used, the bytes of lines that were put, the next line's
-// number, and whether more may follow.
-#[derive(Clone, Copy)]
-struct Part {
+// The bytes of the trace, and of lines, that are held at a time.
+const ROOM: usize = 65536;
+
+// What a call gave; none where it failed, which is then said.
+fn or_say<R: Eprint, T, E: Display + Drop>(rt: &R, what: &str, outcome: Result<T, E>) -> Option<T>
+    ensures { IfSome result (λ given. outcome ≡ Ok given) }
+{
+    match outcome {
+        Ok(given) => Some(given),
+        Err(e) => {
+            let _ = eprintln!(rt; "purlanchor: {what}: {e}");
+            None
+        }
+    }
+}
+
+// The bytes of the trace that were read and not used yet: in memory of a fixed size, and no `Vec`, since nothing of the port is allocated.
+#[derive(Drop)]
+struct Unread {
+    buf: [u8; ROOM],
+    len: usize,
+    ghost within: { len ≤ 65536 },
+}
+
+impl Unread {
+    fn new() -> Unread {
+        Unread {
+            buf: [0; ROOM],
+            len: 0,
+        }
+    }
+
+    fn bytes(&self) -> &[u8]
+        ensures { length result.now ≡ self.now.len }
+    {
+        &self.buf[..self.len]
+    }
+
+    // Reads once behind what is there; how many bytes came.
+    fn fill<R: Read>(&mut self, trace: &mut R) -> io::Result<usize> {
+        let n = trace.read(&mut self.buf[self.len..])?;
+        self.len += n;
+        Ok(n)
+    }
+
+    // Moves what stands behind the used bytes to the front.
+    fn consume(&mut self, used: usize)
+        requires { used ≤ self.old.len }
+    {
+        let left = self.len - used;
+        self.buf[..].copy_within(used..self.len, 0);
+        self.len = left;
+    }
+}
+
+// Where a replay stands, the next line's number, the memory of its agent, and the lines that were put and not written yet.
+#[derive(Drop)]
+struct Replay {
     standing: Standing,
     number: u64,
-    at: usize,
+    table: [u64; 576],
+    store: [u8; 32768],
+    out: [u8; ROOM],
     put: usize,
-    more: bool,
+    ghost within: { put ≤ 65536 },
 }
 
-// What a read left: the bytes that are there now, and whether it failed.
-#[derive(Clone, Copy)]
-struct Filled {
-    end: usize,
-    failed: bool,
-}
+impl Replay {
+    fn new() -> Replay {
+        Replay {
+            standing: replay::start(),
+            number: 1,
+            table: [0; 576],
+            store: [0; 32768],
+            out: [0; ROOM],
+            put: 0,
+        }
+    }
 
-// Reads once behind what is there, and says so where it can't.
-fn fill<E: Eprint, R: Read>(rt: &E, trace: &mut R, buf: &mut [u8], have: usize) -> Filled
-    requires { have ≤ length buf.old }
-    ensures { (have ≤ result.end) × (result.end ≤ length buf.new) }
-{
-    match trace.read(&mut buf[have..]) {
-        Ok(n) => Filled {
-            end: have + n,
-            failed: false,
-        },
-        Err(e) => {
-            let _ = eprintln!(rt; "purlanchor: the trace can't be read: {e}");
-            Filled {
-                end: have,
-                failed: true,
+    fn put_line(&mut self, reply: Option<Answer>)
+        requires { self.old.put + 321 ≤ 65536 }
+    {
+        self.put = line::put_line(&mut self.out, self.put, self.number, reply);
+    }
+
+    // All records that stand whole in a part of the trace, while there is room for any line: a turn that was taken can't be taken back.
+    // A record that more input could make whole is left, unless there is no more. How many bytes were used; none where no other record
+    // may follow.
+    fn turns(&mut self, part: &[u8], last: bool) -> Option<usize>
+        ensures { IfSome result (λ used. used ≤ length part.now) }
+    {
+        self.put = 0;
+        let mut at = 0;
+        // No `for` over records is plainer: how far one reaches is known only behind its turn.
+        while at < part.len()
+            && self.out.len() - self.put >= LONGEST_LINE
+            && (last || !record::short_of(&part[at..]))
+        {
+            let t = replay::next_turn(self.standing, &part[at..], &mut self.table, &mut self.store);
+            self.standing = t.standing;
+            self.put_line(t.reply);
+            if !t.more {
+                return None;
             }
+            at += t.next;
+            self.number = self.number.checked_add(1)?;
         }
+        Some(at)
+    }
+
+    fn lines(&self) -> &[u8] {
+        &self.out[..self.put]
     }
 }
 
-// Writes the lines, and says so where it can't.
-fn write<P: Print + Eprint>(rt: &P, lines: &[u8]) -> bool {
-    match rt.write_all(lines) {
-        Ok(()) => true,
-        Err(e) => {
-            let _ = eprintln!(rt; "purlanchor: the lines can't be written: {e}");
-            false
-        }
-    }
-}
-
-// A record that more input could make whole is left, unless there is no more.
-fn waits(last: bool, rest: &[u8]) -> bool {
-    if last {
-        return false;
-    }
-    record::short_of(rest)
-}
-
-// All records that stand whole in a part of the input, while there is room for any line: a turn that was taken can't be taken back.
-fn turns(
-    from: Standing,
-    first: u64,
-    part: &[u8],
-    table: &mut [u64],
-    store: &mut [u8],
-    out: &mut [u8],
-    last: bool,
-) -> Part
-    requires { size ≤ length table.old }
-    ensures { (result.at ≤ length part.now) × (result.put ≤ length out.new) }
-{
-    let mut standing = from;
-    let mut number = first;
-    let mut at = 0;
-    let mut put = 0;
-    while at < part.len() {
-        if out.len() - put < LONGEST_LINE {
-            break;
-        }
-        if waits(last, &part[at..]) {
-            break;
-        }
-        let t = replay::next_turn(standing, &part[at..], table, store);
-        let next = t.standing;
-        standing = next;
-        let reply = t.reply;
-        put = line::put_line(out, put, number, reply);
-        if !t.more {
-            return Part {
-                standing: standing,
-                number: number,
-                at: at,
-                put: put,
-                more: false,
-            };
-        }
-        at += t.next;
-        if number == u64::MAX {
-            return Part {
-                standing: standing,
-                number: number,
-                at: at,
-                put: put,
-                more: false,
-            };
-        }
-        number += 1;
-    }
-    Part {
-        standing: standing,
-        number: number,
-        at: at,
-        put: put,
-        more: true,
-    }
-}
-
-// Moves the bytes from `from` up to `end` to the front, and answers how many they are.
-fn slide(buf: &mut [u8], from: usize, end: usize) -> usize
-    requires { (from ≤ end) × (end ≤ length buf.old) }
-    ensures { result ≤ length buf.new }
-{
-    let n = end - from;
-    if from == 0 {
-        return n;
-    }
-    let mut i = 0;
-    while i < n {
-        buf[i] = buf[from + i];
-        i += 1;
-    }
-    n
-}
-
-fn is_last(failed: bool, nothing: bool) -> bool {
-    if failed {
-        return false;
-    }
-    nothing
-}
-
-// At the end of the input a part of which nothing was used is the last. Behind a read that failed there is no input, but no end either:
-// what is left of a record then is no bad one.
-fn goes_on(more: bool, written: bool, failed: bool, last: bool, used: usize) -> bool {
-    if !more {
-        return false;
-    }
-    if !written {
-        return false;
-    }
-    if failed {
-        return false;
-    }
-    if last {
-        return 0 < used;
-    }
-    true
-}
-
-#[derive(Clone, Copy)]
-struct Kept {
-    standing: Standing,
-    number: u64,
-    have: usize,
-    more: bool,
-}
-
-// One read; every whole record; the lines out; what is left to the front.
-fn some<P: Print + Eprint, R: Read>(
+// One read; every whole record; the lines out; what is left to the front. None at the end.
+fn round<P: Print + Eprint, R: Read>(
     rt: &P,
     trace: &mut R,
-    standing: Standing,
-    number: u64,
-    buf: &mut [u8],
-    table: &mut [u64],
-    store: &mut [u8],
-    out: &mut [u8],
-    have: usize,
-) -> Kept
-    requires { (have ≤ length buf.old) × (size ≤ length table.old) }
-    ensures { result.have ≤ length buf.new }
-{
-    let filled = fill(rt, trace, buf, have);
-    let end = filled.end;
-    let last = is_last(filled.failed, end == have);
-    let p = turns(standing, number, &buf[..end], table, store, out, last);
-    let at = p.at;
-    let put = p.put;
-    let written = write(rt, &out[..put]);
-    let left = slide(buf, at, end);
-    let then = p.standing;
-    Kept {
-        standing: then,
-        number: p.number,
-        have: left,
-        more: goes_on(p.more, written, filled.failed, last, at),
-    }
-}
-
-fn run<P: Print + Eprint, R: Read>(
-    rt: &P,
-    trace: &mut R,
-    buf: &mut [u8],
-    table: &mut [u64],
-    store: &mut [u8],
-    out: &mut [u8],
-)
-    requires { size ≤ length table.old }
-{
-    let mut standing = replay::start();
-    let mut number: u64 = 1;
-    let mut have: usize = 0;
-    for _ in 0..u64::MAX {
-        let k = some(rt, trace, standing, number, buf, table, store, out, have);
-        if !k.more {
-            return;
-        }
-        let then = k.standing;
-        standing = then;
-        number = k.number;
-        have = k.have;
-    }
+    unread: &mut Unread,
+    replay: &mut Replay,
+) -> Option<()> {
+    let read = or_say(rt, "the trace can't be read", unread.fill(trace));
+    let last = read == Some(0);
+    let used = replay.turns(unread.bytes(), last);
+    or_say(
+        rt,
+        "the lines can't be written",
+        rt.write_all(replay.lines()),
+    )?;
+    // Behind a read that failed there is no input, but no end either: what is left of a record then is no bad one.
+    read?;
+    let used = used?;
+    unread.consume(used);
+    // At the end of the input a part of which nothing was used is the last.
+    if last && used == 0 { None } else { Some(()) }
 }
 
 // What a trace is read from: the input, or a file.
@@ -257,11 +173,7 @@ const LONGEST_NAME: usize = 4096;
 
 // Whether the program was started with an argument i, whatever it is.
 fn has_argument<E: Env>(env: &E, i: usize) -> bool {
-    let mut nothing = [0u8; 0];
-    match env.arg(i, &mut nothing) {
-        Err(FillError::NotPresent) => false,
-        _ => true,
-    }
+    !matches!(env.arg(i, &mut [0u8; 0]), Err(FillError::NotPresent))
 }
 
 // The trace: standard input without an argument, the file that it names with one; none where there is none.
@@ -274,30 +186,23 @@ fn open<R: Env + Input + Files + Eprint>(rt: &R) -> Option<Trace<R::Reader, R::F
         return None;
     }
     let mut name = [0u8; LONGEST_NAME];
-    let Ok(n) = rt.arg(1, &mut name) else {
-        let _ = eprintln!(rt; "purlanchor: the trace's name: File name too long");
-        return None;
-    };
-    let Ok(name) = str::from_utf8(&name[..n]) else {
-        let _ = eprintln!(rt; "purlanchor: the trace's name: not UTF-8");
-        return None;
-    };
-    match File::open(rt, name) {
-        Ok(file) => Some(Trace::File(file)),
-        Err(e) => {
-            let _ = eprintln!(rt; "purlanchor: {name}: {e}");
-            None
-        }
-    }
+    let given = rt.arg(1, &mut name).map_err(|_| "File name too long");
+    let n = or_say(rt, "the trace's name", given)?;
+    let text = str::from_utf8(&name[..n]).map_err(|_| "not UTF-8");
+    let name = or_say(rt, "the trace's name", text)?;
+    let file = or_say(rt, name, File::open(rt, name))?;
+    Some(Trace::File(file))
 }
 
 fn main(rt: HostRuntime) {
     let Some(mut trace) = open(&rt) else {
         return;
     };
-    let mut buf = [0u8; 65536];
-    let mut table = [0u64; 576];
-    let mut store = [0u8; 32768];
-    let mut out = [0u8; 65536];
-    run(&rt, &mut trace, &mut buf, &mut table, &mut store, &mut out);
+    let mut unread = Unread::new();
+    let mut replay = Replay::new();
+    for _ in 0..u64::MAX {
+        if round(&rt, &mut trace, &mut unread, &mut replay).is_none() {
+            return;
+        }
+    }
 }

@@ -1,87 +1,71 @@
 -- The fixed part of a body lies within it.
-use mathlib.Core.Path.{◌≡◌, refl}
-use mathlib.Core.Bool.{Bool, true, false, cond, ◌&&◌, ◌||◌, true≢false}
-use mathlib.Core.List.{List}
-use Prim.Native.Nat.{ℕ, ◌+◌, ◌≤◌}
-use native.Mathlib.Omega.{arith}
-use lib.ListN.{length, get_or}
-use lib.Dec.{leb, eqb}
-use borrow.Author.Tests.{leb-true, eqb-true}
-use Rattle.record.specs.Records.{address_at, with_address, settings_of, timed_of, untimed_of, clock_of, named_of, configure_of, peer_of, plain_of, body_of, from_body}
-use Rattle.model.specs.declared.StunAgentBuilder.{StunAgentBuilder}
+use Rattle.std.specs.Prelude.{ℕ, ◌+◌, ◌≤◌, ◌≡◌, List, length, Bool, true, false, cond, Option, None, Some}
+use Rattle.std.proofs.Common.{arith, rules}
+use Rattle.record.specs.Records.{with_address, settings_of, timed_of, untimed_of, clock_of, named_of, configure_of, peer_of, plain_of, body_of, from_body}
 use Rattle.address.specs.declared.Address.{Address}
-use Rattle.record.specs.declared.Found.{Found}
-use Rattle.record.specs.declared.Found.TheVariants.{Good as Known, Bad as Unknown}
 use Rattle.model.specs.declared.Call.{Call}
 use Rattle.record.specs.declared.Body.{Body}
-use Rattle.record.specs.declared.Body.TheVariants.{Settings, Good, Bad}
+use Rattle.record.specs.declared.Body.TheVariants.{Settings, Asks}
 use Rattle.record.specs.declared.Record.TheVariants.{Settings as Fresh, Whole}
+use Rattle.model.specs.declared.StunAgentBuilder.{StunAgentBuilder}
 
-pub data Within : ℕ → Body → Type 0 where
-  by_settings : {n : ℕ} {b : StunAgentBuilder} → Within n (Settings b)
-  by_call : {n start : ℕ} {call : Call} → start ≤ 5 + n → Within n (Good call start)
-  by_none : {n : ℕ} → Within n Bad
+abbrev pub Fits : ℕ → Option Body → Type 0
+Fits n (Some (Asks call start)) = start ≤ 5 + n
+Fits n (Some (Settings b)) = Unit {0}
+Fits n None = Unit {0}
 
--- Either side of a test, the first with what the test says.
-if_so : {n : ℕ} (b : Bool) (x y : Body) → (b ≡ true → Within n x) → Within n y → Within n (cond b x y)
-if_so true x y f g = f refl
-if_so false x y f g = g
+with_address_fits : (n : ℕ) (f : Option Address) (g : Address → Call) (m : ℕ) → m ≤ 5 + n → Fits n (with_address f g m)
+with_address_fits n (Some a) g m h = h
+with_address_fits n None g m h = tt
 
-with_address_lem : {n : ℕ} (f : Found) (g : Address → Call) (m : ℕ) → m ≤ 5 + n → Within n (with_address f g m)
-with_address_lem (Known a) g m h = by_call h
-with_address_lem Unknown g m h = by_none
+if_fits : (n : ℕ) (b : Bool) (x y : Option Body) → Fits n x → Fits n y → Fits n (cond b x y)
+if_fits n true x y f g = f
+if_fits n false x y f g = g
 
 module _ (k : ℕ) (s : List ℕ) where
-  settings_in : Within (length s) (settings_of s)
+  settings_fits : Fits (length s) (settings_of s)
   unfolding settings_of
-  settings_in = if_so (eqb (length s) 30 && (leb (get_or s 0 0) 1 && leb (get_or s 1 0) 1)) _ Bad (λ h. by_settings) by_none
+  settings_fits = grind arith
 
-  timed_in : Within (length s) (timed_of k s)
+  timed_fits : Fits (length s) (timed_of k s)
   unfolding timed_of
-  timed_in = if_so (leb 35 (length s)) _ Bad (λ h. with_address_lem (address_at s 8) _ 40 (omega (arith, leb-true 35 (length s) h))) by_none
+  timed_fits = grind (arith, with_address_fits)
 
-  untimed_in : Within (length s) (untimed_of k s)
+  untimed_fits : Fits (length s) (untimed_of k s)
   unfolding untimed_of
-  untimed_in = if_so (leb 27 (length s)) _ Bad (λ h. with_address_lem (address_at s 0) _ 32 (omega (arith, leb-true 27 (length s) h))) by_none
+  untimed_fits = grind (arith, with_address_fits)
 
-  clock_in : Within (length s) (clock_of k s)
+  clock_fits : Fits (length s) (clock_of k s)
   unfolding clock_of
-  clock_in = if_so (eqb (length s) 8) _ Bad (λ h. by_call (omega (arith, eqb-true (length s) 8 h))) by_none
+  clock_fits = grind arith
 
-  named_in : Within (length s) (named_of k s)
+  named_fits : Fits (length s) (named_of k s)
   unfolding named_of
-  named_in = if_so (eqb (length s) 12) _ Bad (λ h. by_call (omega (arith, eqb-true (length s) 12 h))) by_none
+  named_fits = grind arith
 
-  configure_in : Within (length s) (configure_of s)
+  configure_fits : Fits (length s) (configure_of s)
   unfolding configure_of
-  configure_in = if_so (eqb (length s) 40) _ Bad (λ h. by_call (omega (arith, eqb-true (length s) 40 h))) by_none
+  configure_fits = grind arith
 
-  peer_in : Within (length s) (peer_of k s)
+  peer_fits : Fits (length s) (peer_of k s)
   unfolding peer_of
-  peer_in = if_so (eqb (length s) 27) _ Bad (λ h. with_address_lem (address_at s 0) _ 32 (omega (arith, eqb-true (length s) 27 h))) by_none
+  peer_fits = grind (arith, with_address_fits)
 
-  plain_in : Within (length s) (plain_of k s)
+  plain_fits : Fits (length s) (plain_of k s)
   unfolding plain_of
-  plain_in = if_so (eqb (length s) 0) _ Bad (λ h. by_call (omega arith)) by_none
+  plain_fits = grind arith
 
-  pub body_lies : Within (length s) (body_of k s)
+  pub body_fits : Fits (length s) (body_of k s)
   unfolding body_of
-  body_lies =
-      if_so (eqb k 1) _ _ (λ h. settings_in)
-      (if_so (eqb k 2 || eqb k 4) _ _ (λ h. timed_in)
-      (if_so (eqb k 3 || eqb k 5) _ _ (λ h. untimed_in)
-      (if_so (eqb k 6 || eqb k 7) _ _ (λ h. clock_in)
-      (if_so (eqb k 8 || (eqb k 9 || eqb k 15)) _ _ (λ h. named_in)
-      (if_so (eqb k 10) _ _ (λ h. configure_in)
-      (if_so (eqb k 11 || eqb k 12) _ _ (λ h. peer_in)
-      (if_so (eqb k 13 || eqb k 14) _ Bad (λ h. plain_in) by_none)))))))
+  body_fits = search (rules, if_fits, settings_fits, timed_fits, untimed_fits, clock_fits, named_fits, configure_fits, peer_fits, plain_fits) depth 12
 
-pub from_fresh : (n end : ℕ) {b : StunAgentBuilder} (body : Body) → from_body n body ≡ Fresh b end → end ≡ 5 + n
-from_fresh n end (Settings x) h = cc
-from_fresh n end (Good call start) h = absurd (true≢false cc)
-from_fresh n end Bad h = absurd (true≢false cc)
+-- Where a record ends, and where its message starts.
+pub whole_fits : {call : Call} (n m start end : ℕ) (b : Option Body) → m ≡ n → Fits m b → from_body n b ≡ Some (Whole call start end) → (end ≡ 5 + n) × (start ≤ end)
+whole_fits n m start end (Some (Settings x)) e f h = grind arith
+whole_fits n m start end (Some (Asks c k)) e f h = grind arith
+whole_fits n m start end None e f h = grind arith
 
-pub from_whole : (n m start end : ℕ) {call : Call} {b : Body} → Within m b → from_body n b ≡ Whole call start end → (end ≡ 5 + n) × (start ≤ 5 + m)
-from_whole n m start end by_settings h = absurd (true≢false cc)
-from_whole n m start end (by_call {n = m'} {start = start'} w) h = let e : start ≡ start' = cc in (cc, rw e w)
-from_whole n m start end by_none h = absurd (true≢false cc)
+pub fresh_fits : {x : StunAgentBuilder} (n end : ℕ) (b : Option Body) → from_body n b ≡ Some (Fresh x end) → end ≡ 5 + n
+fresh_fits n end (Some (Settings x)) h = grind arith
+fresh_fits n end (Some (Asks c k)) h = grind arith
+fresh_fits n end None h = grind arith

@@ -3,30 +3,23 @@
 #![tactic(auto)]
 
 ghost use Rattle.std.specs.Prelude.{◌≡◌, ◌+◌, ◌≤◌, length};
-ghost use Rattle.record.specs.Records.{rto_at, address_at, transport_of, settings_of, timed_of, untimed_of, clock_of, named_of, configure_of, peer_of, plain_of, body_of, record_of, short_of};
+ghost use Rattle.record.specs.Records.{rto_at, free_zero, address_at, transport_of, settings_of, body_of, record_of, short_of};
 
 use address::{Address, Host};
 use message::TransactionId;
 use model::{Call, StunAgentBuilder};
 use waits::{RequestRto, Transport};
 
-#[derive(Clone, Copy)]
-enum Found {
-    Good(Address),
-    Bad,
-}
-
 // A body: settings, or a call and the place in the record behind its fixed part.
-#[derive(Clone, Copy)]
+#[derive(Clone, Copy, Debug, PartialEq, Eq)]
 enum Body {
     Settings(StunAgentBuilder),
-    Good { call: Call, start: usize },
-    Bad,
+    Asks { call: Call, start: usize },
 }
 
 // What stands at the start of the rest of a trace: settings; a call whose message, perhaps none, goes from `start` to `end`, where the
-// next record starts; or no record.
-#[derive(Clone, Copy)]
+// next record starts.
+#[derive(Clone, Copy, Debug, PartialEq, Eq)]
 pub enum Record {
     Settings {
         builder: StunAgentBuilder,
@@ -37,308 +30,203 @@ pub enum Record {
         start: usize,
         end: usize,
     },
-    Bad,
 }
 
-fn size(x: u16) -> usize
-    ensures { result ≡ x }
-{
-    x as usize
-}
+// The mark that a record starts with.
+const MARK: u16 = 0xa55a;
 
+// The mark, the kind and the length: what stands before a body.
+const HEAD: usize = 5;
+
+// The most bytes that a body has.
+const LONGEST: usize = 4096;
+
+#[tactic(auto, unfolding(crate::specs::Records::rto_at))]
 fn rto_at(s: &[u8], at: usize) -> RequestRto
     requires { at + 28 ≤ length s.now }
     ensures { result ≡ rto_at s.now at }
 {
     RequestRto {
-        initial: wire::read64(s, at),
-        max: wire::read64(s, at + 8),
-        retransmits: wire::read32(s, at + 16),
-        last_retransmit: wire::read64(s, at + 20),
+        initial: wire::read(s, at),
+        max: wire::read(s, at + 8),
+        retransmits: wire::read(s, at + 16),
+        last_retransmit: wire::read(s, at + 20),
     }
 }
 
-fn address_at(s: &[u8], at: usize) -> Found
+// Whether what an IPv4 address leaves free is zero.
+#[tactic(auto, unfolding(crate::specs::Records::free_zero))]
+fn free_zero(s: &[u8], at: usize) -> bool
+    requires { at + 27 ≤ length s.now }
+    ensures { result ≡ free_zero s.now at }
+{
+    wire::read::<u64>(s, at + 7) == 0
+        && wire::read::<u32>(s, at + 15) == 0
+        && wire::read::<u64>(s, at + 19) == 0
+}
+
+#[tactic(auto, unfolding(crate::specs::Records::address_at))]
+fn address_at(s: &[u8], at: usize) -> Option<Address>
     requires { at + 27 ≤ length s.now }
     ensures { result ≡ address_at s.now at }
 {
-    let family = s[at];
-    let port = wire::read16(s, at + 1);
-    if family == 4 {
-        if wire::read64(s, at + 7) != 0 {
-            return Found::Bad;
-        }
-        if wire::read32(s, at + 15) != 0 {
-            return Found::Bad;
-        }
-        if wire::read64(s, at + 19) != 0 {
-            return Found::Bad;
-        }
-        return Found::Good(Address {
-            host: Host::V4(wire::read32(s, at + 3)),
-            port: port,
-        });
-    }
-    if family == 6 {
-        return Found::Good(Address {
-            host: Host::V6 {
-                hi: wire::read64(s, at + 3),
-                lo: wire::read64(s, at + 11),
-                flow: wire::read32(s, at + 19),
-                scope: wire::read32(s, at + 23),
-            },
-            port: port,
-        });
-    }
-    Found::Bad
-}
-
-fn transport_of(code: u8) -> Transport
-    ensures { result ≡ transport_of code }
-{
-    if code == 1 {
-        Transport::Tcp
-    } else {
-        Transport::Udp
-    }
-}
-
-// Kind 1.
-fn settings_of(s: &[u8]) -> Body
-    ensures { result ≡ settings_of s.now }
-{
-    if s.len() != 30 {
-        return Body::Bad;
-    }
-    let tcp = s[0];
-    let counts = s[1];
-    if 1 < tcp {
-        return Body::Bad;
-    }
-    if 1 < counts {
-        return Body::Bad;
-    }
-    let rto = rto_at(s, 2);
-    let transport = transport_of(tcp);
-    Body::Settings(StunAgentBuilder {
-        transport: transport,
-        rto: rto,
-        stats: counts == 1,
+    let host = match s[at] {
+        4 if free_zero(s, at) => Host::V4(wire::read(s, at + 3)),
+        6 => Host::V6 {
+            hi: wire::read(s, at + 3),
+            lo: wire::read(s, at + 11),
+            flow: wire::read(s, at + 19),
+            scope: wire::read(s, at + 23),
+        },
+        _ => return None,
+    };
+    Some(Address {
+        host,
+        port: wire::read(s, at + 1),
     })
 }
 
-// Kinds 2 and 4.
-fn timed_of(kind: u8, s: &[u8]) -> Body
-    ensures { result ≡ timed_of kind s.now }
+// This and the kinds below are the trace's own numbers; they are read here alone. No `From`: the type is
+// another crate's.
+fn transport_of(code: u8) -> Transport
+    ensures { result ≡ transport_of code }
 {
-    if s.len() < 35 {
-        return Body::Bad;
-    }
-    let clock = wire::read64(s, 0);
-    let Found::Good(a) = address_at(s, 8) else {
-        return Body::Bad;
-    };
-    if kind == 2 {
-        return Body::Good {
-            call: Call::SendRequest { to: a, now: clock },
-            start: 40,
-        };
-    }
-    Body::Good {
-        call: Call::HandleStunMessageWithTime {
-            from: a,
-            now: clock,
-        },
-        start: 40,
+    match code {
+        1 => Transport::Tcp,
+        _ => Transport::Udp,
     }
 }
 
-// Kinds 3 and 5.
-fn untimed_of(kind: u8, s: &[u8]) -> Body
-    ensures { result ≡ untimed_of kind s.now }
+#[tactic(auto, unfolding(crate::specs::Records::settings_of))]
+fn settings_of(s: &[u8]) -> Option<Body>
+    ensures { result ≡ settings_of s.now }
 {
-    if s.len() < 27 {
-        return Body::Bad;
+    if s.len() != 30 || 1 < s[0] || 1 < s[1] {
+        return None;
     }
-    let Found::Good(a) = address_at(s, 0) else {
-        return Body::Bad;
-    };
-    if kind == 3 {
-        return Body::Good {
-            call: Call::Send { to: a },
-            start: 32,
-        };
-    }
-    Body::Good {
-        call: Call::HandleStunMessage { from: a },
-        start: 32,
-    }
+    Some(Body::Settings(StunAgentBuilder {
+        transport: transport_of(s[0]),
+        rto: rto_at(s, 2),
+        stats: s[1] == 1,
+    }))
 }
 
-// Kinds 6 and 7.
-fn clock_of(kind: u8, s: &[u8]) -> Body
-    ensures { result ≡ clock_of kind s.now }
-{
-    if s.len() != 8 {
-        return Body::Bad;
-    }
-    let clock = wire::read64(s, 0);
-    if kind == 6 {
-        return Body::Good {
-            call: Call::PollTransmit { now: clock },
-            start: 13,
-        };
-    }
-    Body::Good {
-        call: Call::Poll { now: clock },
-        start: 13,
-    }
-}
-
-// Kinds 8, 9 and 15.
-fn named_of(kind: u8, s: &[u8]) -> Body
-    ensures { result ≡ named_of kind s.now }
-{
-    if s.len() != 12 {
-        return Body::Bad;
-    }
-    let id = TransactionId::from_bytes(s, 0);
-    if kind == 8 {
-        return Body::Good {
-            call: Call::CancelRetransmissions { id: id },
-            start: 17,
-        };
-    }
-    if kind == 9 {
-        return Body::Good {
-            call: Call::Cancel { id: id },
-            start: 17,
-        };
-    }
-    Body::Good {
-        call: Call::RequestTransaction { id: id },
-        start: 17,
-    }
-}
-
-// Kind 10.
-fn configure_of(s: &[u8]) -> Body
-    ensures { result ≡ configure_of s.now }
-{
-    if s.len() != 40 {
-        return Body::Bad;
-    }
-    let id = TransactionId::from_bytes(s, 0);
-    let rto = rto_at(s, 12);
-    Body::Good {
-        call: Call::ConfigureTimeoutWithMax { id: id, rto: rto },
-        start: 45,
-    }
-}
-
-// Kinds 11 and 12.
-fn peer_of(kind: u8, s: &[u8]) -> Body
-    ensures { result ≡ peer_of kind s.now }
-{
-    if s.len() != 27 {
-        return Body::Bad;
-    }
-    let Found::Good(a) = address_at(s, 0) else {
-        return Body::Bad;
-    };
-    if kind == 11 {
-        return Body::Good {
-            call: Call::IsValidatedPeer { addr: a },
-            start: 32,
-        };
-    }
-    Body::Good {
-        call: Call::ValidatedPeer { addr: a },
-        start: 32,
-    }
-}
-
-// Kinds 13 and 14.
-fn plain_of(kind: u8, s: &[u8]) -> Body
-    ensures { result ≡ plain_of kind s.now }
-{
-    if s.len() != 0 {
-        return Body::Bad;
-    }
-    if kind == 13 {
-        return Body::Good {
-            call: Call::Stats,
-            start: 5,
-        };
-    }
-    Body::Good {
-        call: Call::Reset,
-        start: 5,
-    }
-}
-
-fn body_of(kind: u8, s: &[u8]) -> Body
+// Each kind by its number and the lengths that it may have. Beside the call stands how long the fixed part is: the message follows it.
+#[tactic(auto, unfolding(crate::specs::Records::body_of, crate::specs::Records::timed_of, crate::specs::Records::untimed_of, crate::specs::Records::clock_of, crate::specs::Records::named_of, crate::specs::Records::configure_of, crate::specs::Records::peer_of, crate::specs::Records::plain_of))]
+fn body_of(kind: u8, s: &[u8]) -> Option<Body>
     ensures { result ≡ body_of kind s.now }
 {
-    match kind {
-        1 => settings_of(s),
-        2 => timed_of(2, s),
-        3 => untimed_of(3, s),
-        4 => timed_of(4, s),
-        5 => untimed_of(5, s),
-        6 => clock_of(6, s),
-        7 => clock_of(7, s),
-        8 => named_of(8, s),
-        9 => named_of(9, s),
-        10 => configure_of(s),
-        11 => peer_of(11, s),
-        12 => peer_of(12, s),
-        13 => plain_of(13, s),
-        14 => plain_of(14, s),
-        15 => named_of(15, s),
-        _ => Body::Bad,
-    }
+    let (call, fixed) = match (kind, s.len()) {
+        (1, _) => return settings_of(s),
+        (2, 35..) => (
+            Call::SendRequest {
+                to: address_at(s, 8)?,
+                now: wire::read(s, 0),
+            },
+            35,
+        ),
+        (3, 27..) => (
+            Call::Send {
+                to: address_at(s, 0)?,
+            },
+            27,
+        ),
+        (4, 35..) => (
+            Call::HandleStunMessageWithTime {
+                from: address_at(s, 8)?,
+                now: wire::read(s, 0),
+            },
+            35,
+        ),
+        (5, 27..) => (
+            Call::HandleStunMessage {
+                from: address_at(s, 0)?,
+            },
+            27,
+        ),
+        (6, 8) => (
+            Call::PollTransmit {
+                now: wire::read(s, 0),
+            },
+            8,
+        ),
+        (7, 8) => (
+            Call::Poll {
+                now: wire::read(s, 0),
+            },
+            8,
+        ),
+        (8, 12) => (
+            Call::CancelRetransmissions {
+                id: TransactionId::from_bytes(s, 0),
+            },
+            12,
+        ),
+        (9, 12) => (
+            Call::Cancel {
+                id: TransactionId::from_bytes(s, 0),
+            },
+            12,
+        ),
+        (10, 40) => (
+            Call::ConfigureTimeoutWithMax {
+                id: TransactionId::from_bytes(s, 0),
+                rto: rto_at(s, 12),
+            },
+            40,
+        ),
+        (11, 27) => (
+            Call::IsValidatedPeer {
+                addr: address_at(s, 0)?,
+            },
+            27,
+        ),
+        (12, 27) => (
+            Call::ValidatedPeer {
+                addr: address_at(s, 0)?,
+            },
+            27,
+        ),
+        (13, 0) => (Call::Stats, 0),
+        (14, 0) => (Call::Reset, 0),
+        (15, 12) => (
+            Call::RequestTransaction {
+                id: TransactionId::from_bytes(s, 0),
+            },
+            12,
+        ),
+        _ => return None,
+    };
+    Some(Body::Asks {
+        call,
+        start: HEAD + fixed,
+    })
 }
 
 // The record at the start of the rest of a trace.
-pub fn record_of(rest: &[u8]) -> Record
+#[tactic(auto, unfolding(crate::specs::Records::record_of, crate::specs::Records::framed))]
+pub fn record_of(rest: &[u8]) -> Option<Record>
     ensures { result ≡ record_of rest.now }
 {
-    if rest.len() < 5 {
-        return Record::Bad;
+    if rest.len() < HEAD || wire::read::<u16>(rest, 0) != MARK {
+        return None;
     }
-    if wire::read16(rest, 0) != 0xa55a {
-        return Record::Bad;
+    let len = usize::from(wire::read::<u16>(rest, 3));
+    if LONGEST < len {
+        return None;
     }
-    let len = size(wire::read16(rest, 3));
-    if 4096 < len {
-        return Record::Bad;
-    }
-    if rest.len() - 5 < len {
-        return Record::Bad;
-    }
-    let from = 5;
-    let end = 5 + len;
-    match body_of(rest[2], &rest[from..end]) {
-        Body::Settings(builder) => Record::Settings {
-            builder: builder,
-            end: end,
-        },
-        Body::Good { call, start } => Record::Whole {
-            call: call,
-            start: start,
-            end: end,
-        },
-        Body::Bad => Record::Bad,
-    }
+    let end = HEAD + len;
+    let body = rest.get(HEAD..end)?;
+    Some(match body_of(rest[2], body)? {
+        Body::Settings(builder) => Record::Settings { builder, end },
+        Body::Asks { call, start } => Record::Whole { call, start, end },
+    })
 }
 
 // Whether the head of the record, or the body that it announces, is cut short: false of a whole one.
+#[tactic(auto, unfolding(crate::specs::Records::short_of))]
 pub fn short_of(rest: &[u8]) -> bool
     ensures { result ≡ short_of rest.now }
 {
-    if rest.len() < 5 {
-        return true;
-    }
-    rest.len() < 5 + size(wire::read16(rest, 3))
+    rest.len() < HEAD || rest.len() < HEAD + usize::from(wire::read::<u16>(rest, 3))
 }

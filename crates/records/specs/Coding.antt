@@ -1,15 +1,15 @@
 -- A request as the words of a row, and back. Any words are some request's.
-use Rattle.std.specs.Prelude.{ℕ, ◌+◌, ◌*◌, ◌/◌, ◌%◌, ◌<◌, ◌≡◌, Bool, true, false, cond, List, [], ◌∷◌, eqb, get_or}
+use Rattle.request.specs.Times.{sent_times}
+use Rattle.message.specs.declared.IntegrityAlgorithm.{IntegrityAlgorithm}
+use Rattle.message.specs.declared.IntegrityAlgorithm.TheVariants.{Sha1, Sha256}
+use Rattle.std.specs.Prelude.{ℕ, ◌+◌, ◌*◌, ◌/◌, ◌%◌, ◌<◌, ◌≡◌, Bool, cond, List, [], ◌∷◌, eqb, get_or, Option, None, Some, is_some}
 use Rattle.rows.specs.Rows.{put_at}
 use Rattle.address.specs.declared.Address.{Address}
 use Rattle.address.specs.declared.Host.{Host}
 use Rattle.address.specs.declared.Host.TheVariants.{V4, V6}
 use Rattle.message.specs.declared.TransactionId.{TransactionId}
-use Rattle.message.specs.declared.Integrity.{Integrity}
-use Rattle.message.specs.declared.Integrity.TheVariants.{None, Sha1, Sha256}
 use Rattle.waits.specs.declared.RequestRto.{RequestRto}
 use Rattle.request.specs.declared.SendTimes.{SendTimes}
-use Rattle.request.specs.declared.SendTimes.TheVariants.{Never, Sent}
 use Rattle.request.specs.declared.StunRequestState.{StunRequestState}
 
 -- The words of one request, and of the table: 32 rows.
@@ -24,14 +24,14 @@ size = 32 * width
 abbrev pub words_from : List ℕ → ℕ → ℕ → ℕ
 words_from t b k = get_or t (b + k) 0
 
-abbrev pub integrity_by : ℕ → Integrity
-integrity_by code = cond (eqb code 0) None (cond (eqb code 1) Sha1 Sha256)
+abbrev pub integrity_by : ℕ → Option IntegrityAlgorithm
+integrity_by code = cond (eqb code 0) None (cond (eqb code 1) (Some Sha1) (Some Sha256))
 
 abbrev pub host_by : ℕ → ℕ → ℕ → ℕ → ℕ → Host
 host_by kind hi lo flow scope = cond (eqb kind 4) (V4 (lo % 4294967296)) (V6 hi lo (flow % 4294967296) (scope % 4294967296))
 
-abbrev pub times_by : ℕ → ℕ → ℕ → SendTimes
-times_by sent first last = cond (eqb sent 1) (Sent first last) Never
+abbrev pub times_by : ℕ → ℕ → ℕ → Option SendTimes
+times_by sent first last = cond (eqb sent 1) (sent_times first last) None
 
 abbrev pub id_by : (ℕ → ℕ) → TransactionId
 id_by f = record { hi = f 0 % 4294967296; lo = f 1 }
@@ -60,10 +60,10 @@ unfoldable pub decode : List ℕ → StunRequestState
 decode x = decode_by (λ k. get_or x k 0)
 
 -- ---- a request to words
-abbrev pub integrity_code : Integrity → ℕ
+abbrev pub integrity_code : Option IntegrityAlgorithm → ℕ
 integrity_code None = 0
-integrity_code Sha1 = 1
-integrity_code Sha256 = 2
+integrity_code (Some Sha1) = 1
+integrity_code (Some Sha256) = 2
 
 abbrev pub kind_of : Host → ℕ
 kind_of (V4 a) = 4
@@ -98,17 +98,13 @@ abbrev pub ScopeFits : Host → Type 0
 ScopeFits (V4 a) = Unit
 ScopeFits (V6 hi lo flow scope) = scope < 4294967296
 
-abbrev pub is_sent : SendTimes → Bool
-is_sent Never = false
-is_sent (Sent first last) = true
+abbrev pub first_of : Option SendTimes → ℕ
+first_of None = 0
+first_of (Some s) = s.first
 
-abbrev pub first_of : SendTimes → ℕ
-first_of Never = 0
-first_of (Sent first last) = first
-
-abbrev pub last_of : SendTimes → ℕ
-last_of Never = 0
-last_of (Sent first last) = last
+abbrev pub last_of : Option SendTimes → ℕ
+last_of None = 0
+last_of (Some s) = s.last
 
 abbrev pub bit_of : Bool → ℕ
 bit_of b = cond b 1 0
@@ -120,7 +116,7 @@ unfoldable pub encode : StunRequestState → List ℕ
 encode r =
     r.transaction_id.hi
     ∷ r.transaction_id.lo
-    ∷ flags_of r.recv_cancelled r.send_cancelled (is_sent r.send_times) (integrity_code r.request_integrity)
+    ∷ flags_of r.recv_cancelled r.send_cancelled (is_some r.send_times) (integrity_code r.request_integrity)
     ∷ r.row
     ∷ r.len
     ∷ kind_of r.to.host

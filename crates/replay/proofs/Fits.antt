@@ -2,12 +2,11 @@
 use mathlib.Core.Path.{◌≡◌, refl, sym, ap, ◌∙◌}
 use mathlib.Core.Bool.{Bool, true, false, cond}
 use mathlib.Core.List.{List, [], ◌∷◌, ◌++◌, append-nil, append_assoc}
-use Prim.Native.Nat.{ℕ, zero, suc, ◌+◌, ◌-◌, ◌≤◌, ◌<◌}
+use Prim.Native.Nat.{ℕ, ◌+◌, ◌-◌, ◌≤◌, ◌<◌}
 use native.Mathlib.Nat.{sub-zero}
-use native.Mathlib.Numerals.{add-one}
 use native.Mathlib.Omega.{arith}
-use lib.ListN.{length, take, drop, set, replicate, length-drop, drop_of_length-le}
-use lib.Seq.{drop-drop, take-suc-set, take_all, length-take-le}
+use lib.ListN.{length, take, drop, replicate, length-drop, drop_of_length-le}
+use lib.Seq.{drop-drop, take_all, length-take-le}
 use borrow.Author.Tests.{le-leb, lt-leb}
 use Rattle.line.specs.Lines.{Puts, line_of}
 use Rattle.line.proofs.Putting.{put_fits, put_over, put_length}
@@ -133,16 +132,13 @@ module _ {trace : List ℕ} {m : ℕ} {out : List ℕ} {stand : Stand} {at numbe
           let o : (turn_of stand (drop at trace)).more ≡ true = ap (λ (x : Played). x.more) (sym et) ∙ h in
           (omega (arith, g.on o), omega (arith, g.within))
 
--- One more zero.
-pub clear_more : (out out₀ : List ℕ) (from i : ℕ) → i < length out → from ≤ i → take i out ≡ take from out₀ ++ replicate (i - from) 0
-    → take (i + 1) (set out i 0) ≡ take from out₀ ++ replicate (i + 1 - from) 0
-clear_more out out₀ from i h k e =
-    let d : i + 1 - from ≡ (i - from) + 1 = omega arith in
-    rw (d, add-one, add-one, take-suc-set out i 0, e, append_assoc, snoc (i - from))
-  where
-    snoc : (n : ℕ) → ◌≡◌ {A = List ℕ} (replicate n 0 ++ (0 ∷ [])) (replicate (suc n) 0)
-    snoc zero = refl
-    snoc (suc n) = ap (λ (l : List ℕ). 0 ∷ l) (snoc n)
+-- Zeros behind a place.
+pub filled : (l : List ℕ) (n : ℕ) {z : List ℕ} → n ≤ length l → z ≡ replicate (length (take (length l - n) (drop n l))) 0
+    → take n l ++ (z ++ drop (length l - n) (drop n l)) ≡ take n l ++ replicate (length l - n) 0
+filled l n h e =
+    let none : drop (length l - n) (drop n l) ≡ [] = drop_of_length-le (drop n l) (rw length-drop (omega arith)) in
+    let all : length (take (length l - n) (drop n l)) ≡ length l - n = length-take-le (length l - n) (drop n l) (rw length-drop (omega arith)) in
+    rw (e, none, append-nil, all)
 
 -- The lines, and then zeros.
 pub replayed : {trace : List ℕ} {m : ℕ} {lined after : List ℕ} {count : ℕ} → Lined trace m lined count → length lined ≡ m
@@ -151,10 +147,3 @@ replayed {trace} {m} {lined} {after} {count} l s e =
     let n : length (take count lined) ≡ count = length-take-le count lined (omega (arith, l.within)) in
     let c : count ≡ length (fitting (lines_of trace) m) = sym n ∙ ap length l.holds in
     record { says = c; then = e ∙ rw (l.holds, s, c) }
-
-pub clear_none : (out : List ℕ) (from : ℕ) → take from out ≡ take from out ++ replicate (from - from) 0
-clear_none out from = let z : from - from ≡ 0 = omega arith in sym (rw z (append-nil (take from out)))
-
-pub clear_all : (out out₀ : List ℕ) (from i : ℕ) → length out ≤ i → i ≤ length out → length out ≡ length out₀
-    → take i out ≡ take from out₀ ++ replicate (i - from) 0 → out ≡ take from out₀ ++ replicate (length out₀ - from) 0
-clear_all out out₀ from i h k l e = let q : i ≡ length out₀ = omega arith in sym (take_all i out h) ∙ e ∙ rw q

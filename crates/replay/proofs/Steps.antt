@@ -1,4 +1,8 @@
 -- What a turn does to the steps and lines of what is left of a trace.
+use Rattle.std.specs.Prelude.{Option, None, Some, Result, Ok, Err}
+use Rattle.model.specs.declared.Refusal.{Refusal}
+use Rattle.model.specs.declared.StunAgent.{StunAgent}
+use Rattle.stats.specs.declared.Event.{Event}
 use mathlib.Core.Path.{◌≡◌, refl, sym, ap, ◌∙◌}
 use mathlib.Core.Bool.{Bool, true, false, cond}
 use mathlib.Core.List.{List, [], ◌∷◌}
@@ -8,11 +12,9 @@ use lib.ListN.{length, take, drop, length-drop}
 use lib.Seq.{length-take-le}
 use Rattle.model.specs.Fresh.{build_of}
 use Rattle.model.specs.Says.{Said, says}
-use Rattle.model.specs.declared.Built.{Built}
-use Rattle.model.specs.declared.Built.TheVariants.{Refused, Fresh}
 use Rattle.record.specs.Records.{record_of}
 use Rattle.record.specs.declared.Record.{Record}
-use Rattle.record.specs.declared.Record.TheVariants.{Settings, Whole, Bad as Broken}
+use Rattle.record.specs.declared.Record.TheVariants.{Settings, Whole}
 use Rattle.record.proofs.Frames.{fresh_lies, whole_lies}
 use Rattle.line.specs.Lines.{line_of}
 use Rattle.replay.specs.Runs.{Stand, Played, Step, stop, made, stepped, turn_by, turn_of, step_of, steps_in, numbered}
@@ -22,9 +24,9 @@ pub record Goes (s : List ℕ) (t : Played) : Type 0 where
   pub within : t.next ≤ length s
   pub on : t.more ≡ true → 0 < t.next
 
-made_goes : (w : Stand) (s : List ℕ) (b : Built) (end : ℕ) → 5 ≤ end → end ≤ length s → Goes s (made w b end)
-made_goes w s (Fresh a e) end h k = record { within = k; on = λ z. omega arith }
-made_goes w s (Refused n) end h k = record { within = k; on = λ z. omega arith }
+made_goes : (w : Stand) (s : List ℕ) (b : Result (StunAgent × Event) Refusal) (end : ℕ) → 5 ≤ end → end ≤ length s → Goes s (made w b end)
+made_goes w s (Ok (a, e)) end h k = record { within = k; on = λ z. omega arith }
+made_goes w s (Err n) end h k = record { within = k; on = λ z. omega arith }
 
 stop_goes : (w : Stand) (s : List ℕ) → Goes s (stop w)
 stop_goes w s = record { within = omega arith; on = λ z. absurd (let o : ◌≡◌ {A = ℕ} 0 1 = cc in omega arith) }
@@ -37,10 +39,10 @@ turn_goes w s = go (record_of s) refl
     step true x end h k = record { within = k; on = λ z. omega arith }
     step false x end h k = stop_goes w s
 
-    go : (r : Record) → record_of s ≡ r → Goes s (turn_by w s r)
-    go Broken e = stop_goes w s
-    go (Settings b end) e = let l = fresh_lies s e in made_goes w s (build_of b) end l.some l.ends
-    go (Whole call start end) e = let l = whole_lies s e in step w.on (says 32 w.world call (take (end - start) (drop start s))) end l.some l.ends
+    go : (r : Option Record) → record_of s ≡ r → Goes s (turn_by w s r)
+    go None e = stop_goes w s
+    go (Some (Settings b end)) e = let l = fresh_lies s e in made_goes w s (build_of b) end l.some l.ends
+    go (Some (Whole call start end)) e = let l = whole_lies s e in step w.on (says 32 w.world call (take (end - start) (drop start s))) end l.some l.ends
 
 where_on : {A : Type 0} (b : Bool) {x y : A} (z : A) → (b ≡ true → x ≡ y) → cond b x z ≡ cond b y z
 where_on true z f = f refl

@@ -1,4 +1,7 @@
 -- A law for each way through a turn, and what a turn is in the terms of the model.
+use Rattle.std.specs.Prelude.{Ok, Option, None, Some, Result, Err}
+use Rattle.model.specs.declared.Refusal.{Refusal}
+use Rattle.model.specs.declared.Answer.{Answer}
 use mathlib.Core.Path.{◌≡◌, refl, sym, ap, ◌∙◌}
 use mathlib.Core.Bool.{Bool, true, false, cond}
 use mathlib.Core.List.{List}
@@ -20,19 +23,15 @@ use Rattle.model.specs.Fresh.{build_of}
 use Rattle.model.specs.Says.{Said}
 use Rattle.model.specs.declared.StunAgent.{StunAgent}
 use Rattle.model.specs.declared.StunAgentBuilder.{StunAgentBuilder}
-use Rattle.model.specs.declared.Built.{Built}
-use Rattle.model.specs.declared.Built.TheVariants as built
 use Rattle.model.specs.declared.Call.{Call}
-use Rattle.model.specs.declared.Answer.TheVariants.{Ok, Refused}
+use Rattle.model.specs.declared.Answer.TheVariants as answer
 use Rattle.model.proofs.Default.{built_empty}
 use Rattle.agent.specs.Ready.{world_with, world_of}
 use Rattle.agent.specs.Said.{said_in, words_in}
 use Rattle.agent.proofs.Said.{said_whole}
 use Rattle.record.specs.Records.{record_of}
 use Rattle.record.specs.declared.Record.{Record}
-use Rattle.record.specs.declared.Record.TheVariants.{Settings, Whole, Bad as Broken}
-use Rattle.line.specs.declared.Reply.{Reply}
-use Rattle.line.specs.declared.Reply.TheVariants.{Told, Bad}
+use Rattle.record.specs.declared.Record.TheVariants.{Settings, Whole}
 use Rattle.replay.specs.Runs.{Stand, Played, no_peer, first_world, first_stand, stop, made, stepped, turn_with, turn_by, turn_of}
 use Rattle.replay.specs.Lent.{stand_of, played_of, words_by, Plays, first_standing, Begins}
 use Rattle.replay.specs.declared.Standing.{Standing}
@@ -41,11 +40,11 @@ use Rattle.entry.specs.Entry.{Performed, answered_in}
 use Rattle.entry.specs.declared.Stepped.{Stepped}
 
 -- On a table with all its rows a turn is what the model says.
-turn_whole : (t : List ℕ) (st : Stand) (s : List ℕ) → size ≤ length t → (r : Record)
+turn_whole : (t : List ℕ) (st : Stand) (s : List ℕ) → size ≤ length t → (r : Option Record)
     → turn_with (λ w c m. said_in t w (kind_of c) m) st s r ≡ turn_by st s r
-turn_whole t st s h Broken = refl
-turn_whole t st s h (Settings b end) = refl
-turn_whole t st s h (Whole call start end) =
+turn_whole t st s h None = refl
+turn_whole t st s h (Some (Settings b end)) = refl
+turn_whole t st s h (Some (Whole call start end)) =
     ap (λ (y : Said). cond st.on (stepped y end) (stop st)) (said_whole t st.world (kind_of call) (take (end - start) (drop start s)) h)
 
 pub as_model : {x : Standing} {s t store : List ℕ} {r : Turn} {t' store' : List ℕ} → Plays x s t store r t' store' → size ≤ length t
@@ -54,7 +53,7 @@ unfolding turn_of
 as_model {x} {s} {t} {store} p h = p.says ∙ turn_whole t (stand_of x t store) s h (record_of s)
 
 -- At most one outcome meets the promise of a turn.
-same_turn : {on on' : Bool} {a a' : StunAgent} {peers peers' : List Address} {st st' : StunAgentStats} {reply reply' : Reply} {n n' : ℕ} {more more' : Bool}
+same_turn : {on on' : Bool} {a a' : StunAgent} {peers peers' : List Address} {st st' : StunAgentStats} {reply reply' : Option Answer} {n n' : ℕ} {more more' : Bool}
     → on ≡ on' → a ≡ a' → peers ≡ peers' → st ≡ st' → reply ≡ reply' → n ≡ n' → more ≡ more'
     → ◌≡◌ {A = Turn} (record { standing = record { on = on; held = record { agent = a; peers = peers; stats = st } }; reply = reply; next = n; more = more }) (record { standing = record { on = on'; held = record { agent = a'; peers = peers'; stats = st' } }; reply = reply'; next = n'; more = more' })
 same_turn e₁ e₂ e₃ e₄ e₅ e₆ e₇ = cc
@@ -90,25 +89,25 @@ pub begun : {x : Standing} {t store : List ℕ} → x ≡ first_standing → Beg
 unfolding first_world
 begun {x} {t} {store} e b = ap (λ (y : Standing). stand_of y t store) e ∙ ap (λ (l : List ℕ). stand_of first_standing t l) b.empty
 
-module _ (x : Standing) (s t store : List ℕ) {rec : Record} (e : rec ≡ record_of s) where
+module _ (x : Standing) (s t store : List ℕ) {rec : Option Record} (e : rec ≡ record_of s) where
   abbrev stand : Stand
   stand = stand_of x t store
 
-  by_record : {rec' : Record} {r : Turn} {t' store' : List ℕ} → rec ≡ rec' → played_of r t' store' ≡ turn_with (λ w c m. said_in t w (kind_of c) m) stand s rec'
+  by_record : {rec' : Option Record} {r : Turn} {t' store' : List ℕ} → rec ≡ rec' → played_of r t' store' ≡ turn_with (λ w c m. said_in t w (kind_of c) m) stand s rec'
       → t' ≡ words_by t stand s rec' → Plays x s t store r t' store'
   by_record h p q = record {
     says = p ∙ ap (turn_with (λ w c m. said_in t w (kind_of c) m) stand s) (sym h ∙ e);
     words = q ∙ ap (words_by t stand s) (sym h ∙ e);
   }
 
-  pub broken : rec ≡ Broken → Plays x s t store (record { standing = x; reply = Bad; next = 0; more = false }) t store
+  pub broken : rec ≡ None → Plays x s t store (record { standing = x; reply = None; next = 0; more = false }) t store
   broken h = by_record h refl refl
 
-  module _ {call : Call} {start end : ℕ} (h : rec ≡ Whole call start end) where
+  module _ {call : Call} {start end : ℕ} (h : rec ≡ Some (Whole call start end)) where
     abbrev message : List ℕ
     message = take (end - start) (drop start s)
 
-    pub off : x.on ≡ false → Plays x s t store (record { standing = x; reply = Bad; next = 0; more = false }) t store
+    pub off : x.on ≡ false → Plays x s t store (record { standing = x; reply = None; next = 0; more = false }) t store
     off n =
         by_record h
         (sym (ap (λ (b : Bool). cond b (stepped (said_in t stand.world (kind_of call) message) end) (stop stand)) n))
@@ -116,34 +115,34 @@ module _ (x : Standing) (s t store : List ℕ) {rec : Record} (e : rec ≡ recor
 
     pub played : x.on ≡ true → {r : Stepped} {t' store' : List ℕ}
         → Performed x.held.agent call message t store x.held.peers x.held.stats t' store' r.held.peers r.held.stats (answered_in r)
-        → Plays x s t store (record { standing = record { on = true; held = r.held }; reply = Told r.answer; next = end; more = true }) t' store'
+        → Plays x s t store (record { standing = record { on = true; held = r.held }; reply = Some r.answer; next = end; more = true }) t' store'
     played n p =
         by_record h
         (ap (λ (y : Said). stepped y end) p.says
         ∙ sym (ap (λ (b : Bool). cond b (stepped (said_in t stand.world (kind_of call) message) end) (stop stand)) n))
         (p.words ∙ sym (ap (λ (b : Bool). cond b (words_in t stand.world (kind_of call) message) t) n))
 
-  module _ {b : StunAgentBuilder} {end : ℕ} (h : rec ≡ Settings b end) {y : Built} (f : y ≡ build_of b) where
-    by_built : {y' : Built} {r : Turn} → y ≡ y' → played_of r t store ≡ made stand y' end → Plays x s t store r t store
-    by_built g q = by_record h (q ∙ ap (λ (z : Built). made stand z end) (sym g ∙ f)) refl
+  module _ {b : StunAgentBuilder} {end : ℕ} (h : rec ≡ Some (Settings b end)) {y : Result (StunAgent × Event) Refusal} (f : y ≡ build_of b) where
+    by_built : {y' : Result (StunAgent × Event) Refusal} {r : Turn} → y ≡ y' → played_of r t store ≡ made stand y' end → Plays x s t store r t store
+    by_built g q = by_record h (q ∙ ap (λ (z : Result (StunAgent × Event) Refusal). made stand z end) (sym g ∙ f)) refl
 
-    pub kept : {n : ℕ} → y ≡ built.Refused n
-        → Plays x s t store (record { standing = x; reply = Told (Refused n); next = end; more = x.on }) t store
+    pub kept : {q : Refusal} → y ≡ Err q
+        → Plays x s t store (record { standing = x; reply = Some (answer.Refused q); next = end; more = x.on }) t store
     kept g = by_built g refl
 
-    pub renews : {a : StunAgent} {ev : Event} {st : StunAgentStats} → y ≡ built.Fresh a ev → st ≡ counted ev x.held.stats
-        → Plays x s t store (record { standing = record { on = true; held = record { agent = a; peers = x.held.peers; stats = st } }; reply = Told Ok; next = end; more = true }) t store
+    pub renews : {a : StunAgent} {ev : Event} {st : StunAgentStats} → y ≡ Ok (a, ev) → st ≡ counted ev x.held.stats
+        → Plays x s t store (record { standing = record { on = true; held = record { agent = a; peers = x.held.peers; stats = st } }; reply = Some answer.Ok; next = end; more = true }) t store
     renews {a} {ev} {st} g q =
         by_built g
         (ap (λ (v : StunAgentStats). record {
           stand = record { on = true; world = world_of a t store x.held.peers v };
-          reply = Told Ok;
+          reply = Some answer.Ok;
           next = end;
           more = true;
         }) q
         ∙ ap (λ (l : List StunRequestState). record {
           stand = record { on = true; world = world_with a l store x.held.peers (counted ev x.held.stats) };
-          reply = Told Ok;
+          reply = Some answer.Ok;
           next = end;
           more = true;
         }) (ap (λ (n : ℕ). live n t) (built_empty b (sym f ∙ g))))

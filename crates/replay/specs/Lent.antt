@@ -1,12 +1,12 @@
 -- Where a replay stands, by what it carries and the words and bytes that it is lent.
-use Rattle.std.specs.Prelude.{ℕ, ◌≤◌, ◌≡◌, false, cond, List, length}
+use Rattle.std.specs.Prelude.{ℕ, ◌≤◌, ◌≡◌, false, cond, List, length, Option, None, Some}
 use Rattle.records.specs.Coding.{size}
 use Rattle.model.specs.Calls.{kind_of}
 use Rattle.agent.specs.Ready.{world_of}
 use Rattle.agent.specs.Said.{said_in, words_in}
 use Rattle.record.specs.Records.{record_of}
 use Rattle.record.specs.declared.Record.{Record}
-use Rattle.record.specs.declared.Record.TheVariants.{Settings, Whole, Bad as Broken}
+use Rattle.record.specs.declared.Record.TheVariants.{Settings, Whole}
 use Rattle.replay.specs.Runs.{Stand, Played, message_in, turn_with, first_world}
 use Rattle.replay.specs.declared.Standing.{Standing}
 use Rattle.replay.specs.declared.Turn.{Turn}
@@ -22,15 +22,19 @@ abbrev pub turn_in : List ℕ → Stand → List ℕ → Played
 turn_in t st s = turn_with (λ w c m. said_in t w (kind_of c) m) st s (record_of s)
 
 -- The words of the table after it.
-abbrev pub words_by : List ℕ → Stand → List ℕ → Record → List ℕ
-words_by t st s Broken = t
-words_by t st s (Settings b end) = t
-words_by t st s (Whole call start end) = cond st.on (words_in t st.world (kind_of call) (message_in s (Whole call start end))) t
+abbrev pub words_by : List ℕ → Stand → List ℕ → Option Record → List ℕ
+words_by t st s None = t
+words_by t st s (Some (Settings b end)) = t
+words_by t st s (Some (Whole call start end)) = cond st.on (words_in t st.world (kind_of call) (message_in s (Some (Whole call start end)))) t
 
 -- One turn: where the replay stands, what it says, and every word of the table.
 pub record Plays (x : Standing) (s t store : List ℕ) (r : Turn) (t' store' : List ℕ) : Type 0 where
   pub says : played_of r t' store' ≡ turn_in t (stand_of x t store) s
   pub words : t' ≡ words_by t (stand_of x t store) s (record_of s)
+
+-- `bad`, and the end.
+abbrev pub stop_of : Standing → Turn
+stop_of x = record { standing = x; reply = None; next = 0; more = false }
 
 -- Before the first settings.
 abbrev pub first_standing : Standing

@@ -1,6 +1,8 @@
 -- What a trace plays: its records with their answers and messages, their lines, and the lines that fit a buffer. Document 01, "Replay
 -- program".
-use Rattle.std.specs.Prelude.{ℕ, zero, suc, ◌+◌, ◌-◌, ◌≤◌, ◌≡◌, List, [], ◌∷◌, ◌++◌, Bool, true, false, cond, length, take, drop, replicate, leb}
+use Rattle.std.specs.Prelude.{Ok, ℕ, zero, suc, ◌+◌, ◌-◌, ◌≤◌, ◌≡◌, List, [], ◌∷◌, ◌++◌, Bool, true, false, cond, length, take, drop, replicate, leb, Option, None, Some, Result, Err}
+use Rattle.model.specs.declared.Refusal.{Refusal}
+use Rattle.model.specs.declared.Answer.{Answer}
 use Rattle.address.specs.declared.Address.{Address}
 use Rattle.address.specs.declared.Host.TheVariants.{V4}
 use Rattle.waits.specs.Waits.{default_rto}
@@ -11,16 +13,12 @@ use Rattle.model.specs.World.{World}
 use Rattle.model.specs.Fresh.{fresh_agent, build_of}
 use Rattle.model.specs.Says.{Said, says}
 use Rattle.model.specs.declared.StunAgent.{StunAgent}
-use Rattle.model.specs.declared.Built.{Built}
-use Rattle.model.specs.declared.Built.TheVariants as built
 use Rattle.model.specs.declared.Call.{Call}
-use Rattle.model.specs.declared.Answer.TheVariants.{Refused, Ok}
+use Rattle.model.specs.declared.Answer.TheVariants as answer
 use Rattle.record.specs.Records.{record_of}
 use Rattle.record.specs.declared.Record.{Record}
-use Rattle.record.specs.declared.Record.TheVariants.{Settings, Whole, Bad as Broken}
+use Rattle.record.specs.declared.Record.TheVariants.{Settings, Whole}
 use Rattle.line.specs.Lines.{line_of}
-use Rattle.line.specs.declared.Reply.{Reply}
-use Rattle.line.specs.declared.Reply.TheVariants.{Told, Bad}
 
 -- Where a replay stands: whether it has an agent yet, and its world.
 pub record Stand : Type 0 where
@@ -47,39 +45,39 @@ first_stand = record { on = false; world = first_world }
 -- What a record does: where the replay stands then, what its line says, how many bytes it took, and whether another may follow.
 pub record Played : Type 0 where
   pub stand : Stand
-  pub reply : Reply
+  pub reply : Option Answer
   pub next : ℕ
   pub more : Bool
 
 -- "its number, `bad` and the end"
 abbrev pub stop : Stand → Played
-stop st = record { stand = st; reply = Bad; next = 0; more = false }
+stop st = record { stand = st; reply = None; next = 0; more = false }
 
 -- A fresh agent in what is lent.
 abbrev pub renewed : World → StunAgent → Event → World
 renewed w a e = record { agent = a; requests = []; store = w.store; peers = w.peers; stats = counted e w.stats }
 
 -- "So do refused first settings, with `refused 2` for `bad`; refused later ones keep the old agent."
-abbrev pub made : Stand → Built → ℕ → Played
-made st (built.Fresh a e) end = record { stand = record { on = true; world = renewed st.world a e }; reply = Told Ok; next = end; more = true }
-made st (built.Refused n) end = record { stand = st; reply = Told (Refused n); next = end; more = st.on }
+abbrev pub made : Stand → Result (StunAgent × Event) Refusal → ℕ → Played
+made st (Ok (a, e)) end = record { stand = record { on = true; world = renewed st.world a e }; reply = Some answer.Ok; next = end; more = true }
+made st (Err q) end = record { stand = st; reply = Some (answer.Refused q); next = end; more = st.on }
 
 abbrev pub stepped : Said → ℕ → Played
-stepped said end = record { stand = record { on = true; world = said.world }; reply = Told said.answer; next = end; more = true }
+stepped said end = record { stand = record { on = true; world = said.world }; reply = Some said.answer; next = end; more = true }
 
 -- The message of a record.
-abbrev pub message_in : List ℕ → Record → List ℕ
-message_in s Broken = []
-message_in s (Settings b end) = []
-message_in s (Whole call start end) = take (end - start) (drop start s)
+abbrev pub message_in : List ℕ → Option Record → List ℕ
+message_in s None = []
+message_in s (Some (Settings b end)) = []
+message_in s (Some (Whole call start end)) = take (end - start) (drop start s)
 
 -- A record, by what a call answers and leaves; "a first one that isn't kind 1" is bad.
-abbrev pub turn_with : (World → Call → List ℕ → Said) → Stand → List ℕ → Record → Played
-turn_with f st s Broken = stop st
-turn_with f st s (Settings b end) = made st (build_of b) end
-turn_with f st s (Whole call start end) = cond st.on (stepped (f st.world call (message_in s (Whole call start end))) end) (stop st)
+abbrev pub turn_with : (World → Call → List ℕ → Said) → Stand → List ℕ → Option Record → Played
+turn_with f st s None = stop st
+turn_with f st s (Some (Settings b end)) = made st (build_of b) end
+turn_with f st s (Some (Whole call start end)) = cond st.on (stepped (f st.world call (message_in s (Some (Whole call start end)))) end) (stop st)
 
-abbrev pub turn_by : Stand → List ℕ → Record → Played
+abbrev pub turn_by : Stand → List ℕ → Option Record → Played
 turn_by st s r = turn_with (λ w c m. says 32 w c m) st s r
 
 -- The record at the start of what is left of a trace.
@@ -87,8 +85,8 @@ unfoldable pub turn_of : Stand → List ℕ → Played
 turn_of st s = turn_by st s (record_of s)
 
 pub record Step : Type 0 where
-  pub read : Record
-  pub told : Reply
+  pub read : Option Record
+  pub told : Option Answer
   pub bytes : List ℕ
 
 abbrev pub step_of : Stand → List ℕ → Step

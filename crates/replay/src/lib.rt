@@ -1,30 +1,31 @@
 // A replay: the records of a trace go to an agent, and each answer makes a line. Document 01, "Replay program".
 #![tactic(auto)]
 
-ghost use Rattle.std.specs.Prelude.{◌≡◌, ◌-◌, ◌≤◌, ◌++◌, length, take, replicate};
+ghost use Rattle.std.specs.Prelude.{◌≡◌, length};
 ghost use Rattle.replay.specs.Runs.{Lined, Replays};
-ghost use Rattle.replay.specs.Lent.{Plays, Begins, first_standing};
+ghost use Rattle.replay.specs.Lent.{stop_of, Plays, Begins, first_standing};
 
 use address::{Address, Host};
 use entry::Held;
-use line::Reply;
-use model::{Answer, Built, StunAgent};
+use model::{Answer, StunAgent};
 use record::Record;
 use stats::StunAgentStats;
 use waits::{RequestRto, Transport};
 
-// Whether there is an agent yet, and what is carried from record to record; table and store are lent.
-#[derive(Clone, Copy)]
+// Whether there is an agent yet, and what is carried from record to record; table and store are lent. Kept as a flag and a value: the
+// clause `Plays` of `next_turn` speaks of any value beside a flag that is off, which an Option has no place for.
+#[derive(Clone, Copy, Debug, PartialEq, Eq)]
 pub struct Standing {
     pub on: bool,
     pub held: Held,
 }
 
-// What a record does: where the replay stands then, what its line says, how many bytes it took, and whether another may follow.
-#[derive(Clone, Copy)]
+// What a record does: where the replay stands then, what its line says, how many bytes it took, and whether another may follow. Kept as
+// a flag and a value: the clause `Plays` says how many bytes refused first settings took, too, behind which none may follow.
+#[derive(Clone, Copy, Debug, PartialEq, Eq)]
 pub struct Turn {
     pub standing: Standing,
-    pub reply: Reply,
+    pub reply: Option<Answer>,
     pub next: usize,
     pub more: bool,
 }
@@ -33,27 +34,38 @@ pub struct Turn {
 pub fn start() -> Standing
     ensures { result ≡ first_standing }
 {
+    // The value of `nowhere` in `agent`, which isn't public: one literal, and not a function for both.
     let nobody = Address {
         host: Host::V4(0),
         port: 0,
     };
-    let rto = RequestRto::default();
     let agent = StunAgent {
         transport: Transport::Udp,
         stats: false,
-        rto: rto,
+        rto: RequestRto::default(),
         mark: 0,
         requests: 0,
         peers: 0,
     };
-    let stats = StunAgentStats::default();
     Standing {
         on: false,
         held: Held {
-            agent: agent,
+            agent,
             peers: [nobody; 64],
-            stats: stats,
+            stats: StunAgentStats::default(),
         },
+    }
+}
+
+// `bad`, and the end.
+fn stop(standing: Standing) -> Turn
+    ensures { result ≡ stop_of standing }
+{
+    Turn {
+        standing,
+        reply: None,
+        next: 0,
+        more: false,
     }
 }
 
@@ -61,62 +73,48 @@ pub fn start() -> Standing
 pub fn next_turn(standing: Standing, rest: &[u8], table: &mut [u64], store: &mut [u8]) -> Turn
     ensures { Plays standing rest.now table.old store.old result table.new store.new }
 {
-    match record::record_of(rest) {
-        Record::Bad => Turn {
-            standing: standing,
-            reply: Reply::Bad,
-            next: 0,
-            more: false,
-        },
+    let Some(record) = record::record_of(rest) else {
+        return stop(standing);
+    };
+    match record {
         Record::Settings { builder, end } => match agent::build(builder) {
-            Built::Fresh { agent, event } => {
-                let held = standing.held;
-                let peers = held.peers;
-                let was = held.stats;
-                let stats = was.after(event);
+            Ok((agent, event)) => {
+                let peers = standing.held.peers;
+                let stats = standing.held.stats.after(event);
                 Turn {
                     standing: Standing {
                         on: true,
                         held: Held {
-                            agent: agent,
-                            peers: peers,
-                            stats: stats,
+                            agent,
+                            peers,
+                            stats,
                         },
                     },
-                    reply: Reply::Told(Answer::Ok),
+                    reply: Some(Answer::Ok),
                     next: end,
                     more: true,
                 }
             }
-            Built::Refused(number) => Turn {
-                standing: standing,
-                reply: Reply::Told(Answer::Refused(number)),
+            Err(refusal) => Turn {
+                standing,
+                reply: Some(Answer::Refused(refusal)),
                 next: end,
                 more: standing.on,
             },
         },
         Record::Whole { call, start, end } => {
-            if standing.on {
-                let held = standing.held;
-                let s = entry::step(held, call, &rest[start..end], table, store);
-                let then = s.held;
-                let answer = s.answer;
-                Turn {
-                    standing: Standing {
-                        on: true,
-                        held: then,
-                    },
-                    reply: Reply::Told(answer),
-                    next: end,
-                    more: true,
-                }
-            } else {
-                Turn {
-                    standing: standing,
-                    reply: Reply::Bad,
-                    next: 0,
-                    more: false,
-                }
+            if !standing.on {
+                return stop(standing);
+            }
+            let stepped = entry::step(standing.held, call, &rest[start..end], table, store);
+            Turn {
+                standing: Standing {
+                    on: true,
+                    held: stepped.held,
+                },
+                reply: Some(stepped.answer),
+                next: end,
+                more: true,
             }
         }
     }
@@ -131,12 +129,11 @@ fn lines(trace: &[u8], table: &mut [u64], store: &mut [u8], out: &mut [u8]) -> u
     let mut at = 0;
     let mut number: u64 = 1;
     let mut put = 0;
+    // No `for` over records is plainer: how far one reaches is known only behind its turn.
     while at < trace.len() {
         let t = next_turn(standing, &trace[at..], table, store);
-        let next = t.standing;
-        standing = next;
-        let reply = t.reply;
-        let end = line::put_line(out, put, number, reply);
+        standing = t.standing;
+        let end = line::put_line(out, put, number, t.reply);
         if out.len() < end {
             return put;
         }
@@ -150,18 +147,6 @@ fn lines(trace: &[u8], table: &mut [u64], store: &mut [u8], out: &mut [u8]) -> u
     put
 }
 
-// Zeros from a place to the end.
-fn clear(out: &mut [u8], from: usize)
-    requires { from ≤ length out.old }
-    ensures { out.new ≡ take from out.old ++ replicate (length out.old - from) 0 }
-{
-    let mut i = from;
-    while i < out.len() {
-        out[i] = 0;
-        i += 1;
-    }
-}
-
 // A whole replay: the trace in, the lines that fit whole into the lent buffer, zeros behind them, the count of the lines' bytes back. A
 // Rust host calls it by its export in `replay_c`.
 pub fn replay(trace: &[u8], out: &mut [u8]) -> usize
@@ -170,6 +155,6 @@ pub fn replay(trace: &[u8], out: &mut [u8]) -> usize
     let mut table = [0u64; 576];
     let mut store = [0u8; 32768];
     let end = lines(trace, &mut table, &mut store, out);
-    clear(out, end);
+    out[end..].fill(0);
     end
 }

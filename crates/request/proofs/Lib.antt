@@ -1,5 +1,4 @@
--- Laws about the definitions of specs/. `Next` serves this crate's proofs.
-mod Next
+-- Laws about the definitions of specs/.
 pub mod Answers
 pub mod Steps
 pub mod Moments

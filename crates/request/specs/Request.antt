@@ -1,13 +1,13 @@
 -- What becomes of one request: document 01, "Waits and one request".
-use Rattle.std.specs.Prelude.{ℕ, ◌+◌, max, Bool, true, false, cond, ◌&&◌}
+use Rattle.request.specs.Times.{sent_times}
+use Rattle.message.specs.declared.IntegrityAlgorithm.{IntegrityAlgorithm}
+use Rattle.std.specs.Prelude.{ℕ, ◌+◌, max, Bool, true, false, cond, ◌&&◌, Option, None, Some}
 use Rattle.address.specs.declared.Address.{Address}
 use Rattle.message.specs.declared.TransactionId.{TransactionId}
-use Rattle.message.specs.declared.Integrity.{Integrity}
 use Rattle.waits.specs.declared.RequestRto.{RequestRto}
 use Rattle.waits.specs.declared.Transport.{Transport}
 use Rattle.request.specs.Times.{passed_all, is_due, is_over, moment_of}
 use Rattle.request.specs.declared.SendTimes.{SendTimes}
-use Rattle.request.specs.declared.SendTimes.TheVariants.{Never, Sent}
 use Rattle.request.specs.declared.StunRequestState.{StunRequestState}
 use Rattle.request.specs.declared.StunRequestPollRet.{StunRequestPollRet}
 use Rattle.request.specs.declared.StunRequestPollRet.TheVariants.{WaitUntil, Cancelled, TimedOut}
@@ -15,7 +15,7 @@ use Rattle.request.specs.declared.StunRequestTransmit.{StunRequestTransmit}
 use Rattle.request.specs.declared.StunRequestTransmit.TheVariants.{Rests, Passes, Goes}
 
 -- A request with these times: neither cancel, and "a step count starts at 0".
-abbrev begun : SendTimes → TransactionId → Integrity → ℕ → ℕ → Address → RequestRto → StunRequestState
+abbrev begun : Option SendTimes → TransactionId → Option IntegrityAlgorithm → ℕ → ℕ → Address → RequestRto → StunRequestState
 begun times id integrity row len to rto = record {
   transaction_id = id;
   request_integrity = integrity;
@@ -30,16 +30,16 @@ begun times id integrity row len to rto = record {
 }
 
 -- `StunRequestState::new`.
-unfoldable pub new_request : TransactionId → Integrity → ℕ → ℕ → Address → RequestRto → StunRequestState
-new_request = begun Never
+unfoldable pub new_request : TransactionId → Option IntegrityAlgorithm → ℕ → ℕ → Address → RequestRto → StunRequestState
+new_request = begun None
 
 -- As submitted at a clock: "`send_request` stores the bytes and hands out the first transmission itself", which "raises no count and
 -- sets both times".
-unfoldable pub submitted : ℕ → TransactionId → Integrity → ℕ → ℕ → Address → RequestRto → StunRequestState
-submitted now = begun (Sent now now)
+unfoldable pub submitted : ℕ → TransactionId → Option IntegrityAlgorithm → ℕ → ℕ → Address → RequestRto → StunRequestState
+submitted now = begun (sent_times now now)
 
 -- Another count and other times, and all else as it was.
-abbrev pub with_times : ℕ → SendTimes → StunRequestState → StunRequestState
+abbrev pub with_times : ℕ → Option SendTimes → StunRequestState → StunRequestState
 with_times count times r = record {
   transaction_id = r.transaction_id;
   request_integrity = r.request_integrity;
@@ -54,9 +54,9 @@ with_times count times r = record {
 }
 
 -- "A due send raises the count by one and sets last send to now"; the first one "raises no count and sets both times".
-abbrev pub stepped_by : ℕ → StunRequestState → SendTimes → StunRequestState
-stepped_by now r Never = with_times r.timeout_i (Sent now now) r
-stepped_by now r (Sent first last) = with_times (r.timeout_i + 1) (Sent first now) r
+abbrev pub stepped_by : ℕ → StunRequestState → Option SendTimes → StunRequestState
+stepped_by now r None = with_times r.timeout_i (sent_times now now) r
+stepped_by now r (Some s) = with_times (r.timeout_i + 1) (sent_times s.first now) r
 
 -- Of a record.
 unfoldable pub stepped : ℕ → StunRequestState → StunRequestState

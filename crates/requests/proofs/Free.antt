@@ -3,6 +3,7 @@
 --     free_exists                              fewer requests than rows leave a row free
 --     count_most, free_exactly, full_count     different rows below `rows`: one is free exactly when there are fewer requests
 --     free_different                           a request that takes the free row keeps the rows different
+use Rattle.std.specs.Prelude.{Option, None, Some}
 use Prim.Native.Nat.{ℕ, zero, suc, ◌+◌, ◌≤◌, ◌<◌}
 use mathlib.Core.Path.{◌≡◌, refl, sym, ap, ◌∙◌}
 use mathlib.Core.Bool.{Bool, true, false, cond, ◌||◌}
@@ -17,8 +18,6 @@ use Rattle.rows.specs.Lists.{among}
 use Rattle.request.specs.declared.StunRequestState.{StunRequestState}
 use Rattle.requests.specs.Search.{row_of, rows_of, added, free_from, free_row}
 use Rattle.requests.specs.Formed.{Different, AllWithin}
-use Rattle.requests.specs.declared.FreeRow.{FreeRow}
-use Rattle.requests.specs.declared.FreeRow.TheVariants.{Row, Full}
 use Rattle.requests.proofs.Lists.{neither, apart, is_false}
 use Rattle.requests.proofs.Search.{added_different}
 
@@ -28,7 +27,7 @@ pub record Lowest (rows : ℕ) (taken : List ℕ) (i : ℕ) : Type 0 where
   pub free : among i taken ≡ false
   pub lower : (j : ℕ) → j < i → among j taken ≡ true
 
-free_says : (i n : ℕ) (taken : List ℕ) (row : ℕ) → free_from i n taken ≡ Row row
+free_says : (i n : ℕ) (taken : List ℕ) (row : ℕ) → free_from i n taken ≡ Some row
     → (i ≤ row) × (row < i + n) × (among row taken ≡ false) × ((j : ℕ) → i ≤ j → j < row → among j taken ≡ true)
 free_says i zero taken row e = let z : ◌≡◌ {A = ℕ} 0 1 = cc in absurd (omega arith)
 free_says i (suc n) taken row e = go (among i taken) refl e (free_says (i + 1) n taken row)
@@ -42,15 +41,15 @@ free_says i (suc n) taken row e = go (among i taken) refl e (free_says (i + 1) n
     at_or_above t f j h k true b = rw (eqb-true i j b) at t
     at_or_above t f j h k false b = f j (omega (arith, eqb-false i j b)) k
 
-    go : (b : Bool) → among i taken ≡ b → cond b (free_from (i + 1) n taken) (Row i) ≡ Row row
-        → (free_from (i + 1) n taken ≡ Row row → (i + 1 ≤ row) × (row < i + 1 + n) × (among row taken ≡ false) × ((j : ℕ) → i + 1 ≤ j → j < row → among j taken ≡ true))
+    go : (b : Bool) → among i taken ≡ b → cond b (free_from (i + 1) n taken) (Some i) ≡ Some row
+        → (free_from (i + 1) n taken ≡ Some row → (i + 1 ≤ row) × (row < i + 1 + n) × (among row taken ≡ false) × ((j : ℕ) → i + 1 ≤ j → j < row → among j taken ≡ true))
         → (i ≤ row) × (row < i + suc n) × (among row taken ≡ false) × ((j : ℕ) → i ≤ j → j < row → among j taken ≡ true)
     go true b h ih =
         let r = ih h in
         (omega arith, omega arith, r.2, λ j p q. at_or_above b r.3 j p q (eqb i j) refl)
     go false b h ih = here (cc) b
 
-full_says : (i n : ℕ) (taken : List ℕ) → free_from i n taken ≡ Full → (j : ℕ) → i ≤ j → j < i + n → among j taken ≡ true
+full_says : (i n : ℕ) (taken : List ℕ) → free_from i n taken ≡ None → (j : ℕ) → i ≤ j → j < i + n → among j taken ≡ true
 full_says i zero taken e j h k = absurd (omega arith)
 full_says i (suc n) taken e j h k = go (among i taken) refl e (full_says (i + 1) n taken)
   where
@@ -58,23 +57,23 @@ full_says i (suc n) taken e j h k = go (among i taken) refl e (full_says (i + 1)
     at_or_above t f true b = rw (eqb-true i j b) at t
     at_or_above t f false b = let m = eqb-false i j b in f (omega arith) (omega arith)
 
-    go : (b : Bool) → among i taken ≡ b → cond b (free_from (i + 1) n taken) (Row i) ≡ Full
-        → (free_from (i + 1) n taken ≡ Full → (m : ℕ) → i + 1 ≤ m → m < i + 1 + n → among m taken ≡ true) → among j taken ≡ true
+    go : (b : Bool) → among i taken ≡ b → cond b (free_from (i + 1) n taken) (Some i) ≡ None
+        → (free_from (i + 1) n taken ≡ None → (m : ℕ) → i + 1 ≤ m → m < i + 1 + n → among m taken ≡ true) → among j taken ≡ true
     go true b f ih = at_or_above b (ih f j) (eqb i j) refl
     go false b f ih = let z : ◌≡◌ {A = ℕ} 0 1 = cc in absurd (omega arith)
 
-full_holds : (i n : ℕ) (taken : List ℕ) → ((j : ℕ) → i ≤ j → j < i + n → among j taken ≡ true) → free_from i n taken ≡ Full
+full_holds : (i n : ℕ) (taken : List ℕ) → ((j : ℕ) → i ≤ j → j < i + n → among j taken ≡ true) → free_from i n taken ≡ None
 full_holds i zero taken f = refl
 full_holds i (suc n) taken f =
     rw (f i (omega arith) (omega arith)) (full_holds (i + 1) n taken (λ j h k. f j (omega arith) (omega arith)))
 
 module _ (rows : ℕ) (l : List StunRequestState) where
-  pub free_row_lem : (i : ℕ) → free_row rows l ≡ Row i → Lowest rows (rows_of l) i
+  pub free_row_lem : (i : ℕ) → free_row rows l ≡ Some i → Lowest rows (rows_of l) i
   free_row_lem i e =
       let s = free_says 0 rows (rows_of l) i e in
       record { below = omega arith; free = s.2; lower = λ j h. s.3 j (omega arith) h }
 
-  pub row_exactly : (i : ℕ) → (free_row rows l ≡ Row i) ↔ Lowest rows (rows_of l) i
+  pub row_exactly : (i : ℕ) → (free_row rows l ≡ Some i) ↔ Lowest rows (rows_of l) i
   row_exactly i = (free_row_lem i, λ w. go w (free_row rows l) refl)
     where
       by : Lowest rows (rows_of l) i → (j : ℕ) → Lowest rows (rows_of l) j → (a b : Bool) → ltb i j ≡ a → ltb j i ≡ b → j ≡ i
@@ -82,11 +81,11 @@ module _ (rows : ℕ) (l : List StunRequestState) where
       by w j v false true f g = apart (sym (w.lower j (ltb-true j i g)) ∙ v.free)
       by w j v false false f g = omega (arith, ltb-false i j f, ltb-false j i g)
 
-      go : Lowest rows (rows_of l) i → (f : FreeRow) → free_row rows l ≡ f → f ≡ Row i
-      go w (Row j) e = ap Row (by w j (free_row_lem j e) (ltb i j) (ltb j i) refl refl)
-      go w Full e = apart (sym (full_says 0 rows (rows_of l) e i (omega arith) (omega (arith, w.below))) ∙ w.free)
+      go : Lowest rows (rows_of l) i → (f : Option ℕ) → free_row rows l ≡ f → f ≡ Some i
+      go w (Some j) e = ap Some (by w j (free_row_lem j e) (ltb i j) (ltb j i) refl refl)
+      go w None e = apart (sym (full_says 0 rows (rows_of l) e i (omega arith) (omega (arith, w.below))) ∙ w.free)
 
-  pub full_exactly : (free_row rows l ≡ Full) ↔ ((j : ℕ) → j < rows → among j (rows_of l) ≡ true)
+  pub full_exactly : (free_row rows l ≡ None) ↔ ((j : ℕ) → j < rows → among j (rows_of l) ≡ true)
   full_exactly = (
     λ e j h. full_says 0 rows (rows_of l) e j (omega arith) (omega arith),
     λ f. full_holds 0 rows (rows_of l) (λ j h k. f j (omega arith)),
@@ -132,12 +131,12 @@ free_without zero j k l h = refl
 free_without (suc n) j k l h = rw (without_other k j l (omega arith), free_without n (j + 1) k l (omega arith))
 
 -- where the list is shorter than the numbers that are tried, one of them is free
-free_from_lem : (n k : ℕ) (l : List ℕ) → length l < n → (i : ℕ) × (free_from k n l ≡ Row i)
+free_from_lem : (n k : ℕ) (l : List ℕ) → length l < n → (i : ℕ) × (free_from k n l ≡ Some i)
 free_from_lem zero k l h = absurd (not-suc-le-zero h)
 free_from_lem (suc n) k l h = go (among k l) refl (free_from_lem n (k + 1) (without k l))
   where
-    go : (t : Bool) → among k l ≡ t → (length (without k l) < n → (i : ℕ) × (free_from (k + 1) n (without k l) ≡ Row i))
-        → (i : ℕ) × (cond t (free_from (k + 1) n l) (Row k) ≡ Row i)
+    go : (t : Bool) → among k l ≡ t → (length (without k l) < n → (i : ℕ) × (free_from (k + 1) n (without k l) ≡ Some i))
+        → (i : ℕ) × (cond t (free_from (k + 1) n l) (Some k) ≡ Some i)
     go true e r =
         let s = without_shorter k l e in
         let q = r (omega arith) in
@@ -200,27 +199,27 @@ rows_below rows mark (r ∷ rs) w = (w.0.row, rows_below rows mark rs w.1)
 
 -- "a free row exists exactly when fewer rows are taken than there are"
 module _ (rows : ℕ) (l : List StunRequestState) where
-  pub free_exists : length l < rows → (i : ℕ) × (free_row rows l ≡ Row i)
+  pub free_exists : length l < rows → (i : ℕ) × (free_row rows l ≡ Some i)
   free_exists h = free_from_lem rows 0 (rows_of l) (rw (length-map l row_of) h)
 
   module _ (mark : ℕ) (d : Different (rows_of l)) (w : AllWithin rows mark l) where
     pub count_most : length l ≤ rows
     count_most = rw (length-map l row_of) at (different_short rows (rows_of l) d (rows_below rows mark l w))
 
-    pub free_fewer : (i : ℕ) → free_row rows l ≡ Row i → length l < rows
+    pub free_fewer : (i : ℕ) → free_row rows l ≡ Some i → length l < rows
     free_fewer i e =
         let s = free_row_lem rows l i e in
         let d' : Different (i ∷ rows_of l) = (λ a. apart (sym a ∙ s.free), d) in
         let m = different_short rows (i ∷ rows_of l) d' (s.below, rows_below rows mark l w) in
         omega (arith, length-map l row_of)
 
-    pub free_exactly : ((i : ℕ) × (free_row rows l ≡ Row i)) ↔ (length l < rows)
+    pub free_exactly : ((i : ℕ) × (free_row rows l ≡ Some i)) ↔ (length l < rows)
     free_exactly = (λ e. free_fewer e.0 e.1, free_exists)
 
-    pub full_count : (free_row rows l ≡ Full) ↔ (length l ≡ rows)
+    pub full_count : (free_row rows l ≡ None) ↔ (length l ≡ rows)
     full_count = (to, from)
       where
-        to : free_row rows l ≡ Full → length l ≡ rows
+        to : free_row rows l ≡ None → length l ≡ rows
         to e = go (leb (suc (length l)) rows) refl
           where
             go : (b : Bool) → leb (suc (length l)) rows ≡ b → length l ≡ rows
@@ -230,13 +229,13 @@ module _ (rows : ℕ) (l : List StunRequestState) where
                 let z : ◌≡◌ {A = ℕ} 0 1 = cc in absurd (omega arith)
             go false b = let h = leb-false (suc (length l)) rows b in let m = count_most in omega arith
 
-        from : length l ≡ rows → free_row rows l ≡ Full
+        from : length l ≡ rows → free_row rows l ≡ None
         from e = go (free_row rows l) refl
           where
-            go : (f : FreeRow) → free_row rows l ≡ f → f ≡ Full
-            go (Row i) g = let h = free_fewer i g in absurd (omega arith)
-            go Full g = refl
+            go : (f : Option ℕ) → free_row rows l ≡ f → f ≡ None
+            go (Some i) g = let h = free_fewer i g in absurd (omega arith)
+            go None g = refl
 
-pub free_different : (rows : ℕ) (r : StunRequestState) (l : List StunRequestState) → free_row rows l ≡ Row (row_of r) → Different (rows_of l)
+pub free_different : (rows : ℕ) (r : StunRequestState) (l : List StunRequestState) → free_row rows l ≡ Some (row_of r) → Different (rows_of l)
     → Different (rows_of (added r l))
 free_different rows r l e d = added_different r l d (free_row_lem rows l (row_of r) e).free

@@ -5,12 +5,12 @@
 --     formed_removed     a request taken out
 --     formed_set         another record of a request
 --     formed_walk        the scan of `poll_transmit`
+use Rattle.std.specs.Prelude.{None, Some, slice_get}
 use Prim.Native.Nat.{ℕ, ◌≤◌}
 use mathlib.Core.Path.{◌≡◌, ap}
 use mathlib.Core.List.{List, []}
-use mathlib.Core.Option.{some}
 use native.Mathlib.Omega.{arith}
-use lib.ListN.{set, get_elem?, length-set}
+use lib.ListN.{set, length-set}
 use Rattle.rows.specs.Lists.{remove_at}
 use Rattle.rows.proofs.Lists.{length_insert_at}
 use Rattle.message.specs.Head.{key}
@@ -21,8 +21,6 @@ use Rattle.request.specs.declared.StunRequestState.{StunRequestState}
 use Rattle.requests.specs.Search.{key_of, row_of, lookup, place_of, added, free_row}
 use Rattle.requests.specs.Scan.{walk}
 use Rattle.requests.specs.Formed.{Formed}
-use Rattle.requests.specs.declared.Found.TheVariants.{Nothing}
-use Rattle.requests.specs.declared.FreeRow.TheVariants.{Row}
 use Rattle.requests.proofs.Lists.{length_removed}
 use Rattle.requests.proofs.Search.{none_exactly, keys_set, rows_set, added_ascending, added_within, removed_ascending, removed_different, removed_within, set_within, later_within}
 use Rattle.requests.proofs.Free.{free_fewer, free_different}
@@ -35,7 +33,7 @@ module _ (rows mark later : ℕ) (h : mark ≤ later) (l : List StunRequestState
   pub formed_later : Formed rows later l
   formed_later = record { count = f.count; order = f.order; apart = f.apart; within = later_within rows mark later h l f.within }
 
-  pub formed_added : (r : StunRequestState) → lookup (key_of r) l ≡ Nothing → free_row rows l ≡ Row (row_of r) → RequestLimits rows later r
+  pub formed_added : (r : StunRequestState) → lookup (key_of r) l ≡ None → free_row rows l ≡ Some (row_of r) → RequestLimits rows later r
       → Formed rows later (added r l)
   formed_added r n e w =
       let fewer = free_fewer rows l mark f.apart f.within (row_of r) e in
@@ -54,7 +52,7 @@ module _ (rows mark later : ℕ) (h : mark ≤ later) (l : List StunRequestState
     within = removed_within rows later l i formed_later.within;
   }
 
-  pub formed_set : (i : ℕ) (r q : StunRequestState) → get_elem? l i ≡ some r → SameRequest r q → RequestLimits rows later q
+  pub formed_set : (i : ℕ) (r q : StunRequestState) → slice_get l i ≡ Some r → SameRequest r q → RequestLimits rows later q
       → Formed rows later (set l i q)
   formed_set i r q e same w = record {
     count = rw (length-set l i q) f.count;

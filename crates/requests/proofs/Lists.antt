@@ -1,18 +1,18 @@
 -- Facts about lists and tests that the laws of this crate cite.
 --     neither, apart                       tests that fail, and the two constructors of `Bool`
---     placed_below, placed_split, ..       what stands at a place, `get_elem? l i ≡ some x`
+--     placed_below, placed_split, ..       what stands at a place, `slice_get l i ≡ Some x`
 --     among_insert_at, among_remove_at       numbers that are not in a list
 --     insert_different, remove_different   no number twice, after either
 --     remove_ascending                     the order, after one is taken out
+use Rattle.std.specs.Prelude.{None, Some, slice_get}
 use Prim.Native.Nat.{ℕ, zero, suc, ◌≤◌, ◌<◌}
 use mathlib.Core.Path.{◌≡◌, refl, sym, ap, ◌∙◌}
 use mathlib.Core.Bool.{Bool, true, false, ◌||◌, true≢false}
 use mathlib.Core.List.{List, [], ◌∷◌, ◌++◌, map}
-use mathlib.Core.Option.{none, some}
 use native.Mathlib.Nat.{not-suc-le-zero}
 use native.Mathlib.Omega.{arith}
 use lib.Dec.{eqb}
-use lib.ListN.{length, take, drop, get_or, set, get_elem?}
+use lib.ListN.{length, take, drop, get_or, set}
 use borrow.Author.Tests.{eqb-false, ne_eqb}
 use Rattle.rows.specs.Lists.{insert_at, remove_at, among}
 use Rattle.requests.specs.Formed.{Ascending, Different}
@@ -29,35 +29,36 @@ pub is_false : (b : Bool) → (b ≡ true → ⊥) → b ≡ false
 is_false true f = absurd (f refl)
 is_false false f = refl
 
-pub some_same : {A : Type 0} {a b : A} → some a ≡ some b → a ≡ b
+-- the library's `same_Some` and `none-some`, with what they speak of left out where they are cited
+pub some_same : {A : Type 0} {a b : A} → Some a ≡ Some b → a ≡ b
 some_same e = cc
 
-pub none_some : {A C : Type 0} {a : A} → none ≡ some a → C
+pub none_some : {A C : Type 0} {a : A} → None ≡ Some a → C
 none_some e = absurd (let z : ◌≡◌ {A = ℕ} 0 1 = cc in omega arith)
 
 -- x stands at place i of l
 module _ {A : Type 0} where
-  pub placed_below : (l : List A) (i : ℕ) (x : A) → get_elem? l i ≡ some x → i < length l
+  pub placed_below : (l : List A) (i : ℕ) (x : A) → slice_get l i ≡ Some x → i < length l
   placed_below [] i x e = none_some e
   placed_below (y ∷ l) zero x e = omega arith
   placed_below (y ∷ l) (suc i) x e = omega (arith, placed_below l i x e)
 
-  pub placed_split : (l : List A) (i : ℕ) (x : A) → get_elem? l i ≡ some x → l ≡ take i l ++ (x ∷ drop (suc i) l)
+  pub placed_split : (l : List A) (i : ℕ) (x : A) → slice_get l i ≡ Some x → l ≡ take i l ++ (x ∷ drop (suc i) l)
   placed_split [] i x e = none_some e
   placed_split (y ∷ l) zero x e = ap (λ (z : A). z ∷ l) (some_same e)
   placed_split (y ∷ l) (suc i) x e = ap (λ (t : List A). y ∷ t) (placed_split l i x e)
 
-  pub placed_at : (l : List A) (i : ℕ) (x d : A) → get_elem? l i ≡ some x → get_or l i d ≡ x
+  pub placed_at : (l : List A) (i : ℕ) (x d : A) → slice_get l i ≡ Some x → get_or l i d ≡ x
   placed_at [] i x d e = none_some e
   placed_at (y ∷ l) zero x d e = some_same e
   placed_at (y ∷ l) (suc i) x d e = placed_at l i x d e
 
-  pub placed_there : (l : List A) (i : ℕ) (d : A) → i < length l → get_elem? l i ≡ some (get_or l i d)
+  pub placed_there : (l : List A) (i : ℕ) (d : A) → i < length l → slice_get l i ≡ Some (get_or l i d)
   placed_there [] i d h = absurd (not-suc-le-zero h)
   placed_there (y ∷ l) zero d h = refl
   placed_there (y ∷ l) (suc i) d h = placed_there l i d (omega arith)
 
-  pub placed_set : (l : List A) (i : ℕ) (x y : A) → get_elem? l i ≡ some x → get_elem? (set l i y) i ≡ some y
+  pub placed_set : (l : List A) (i : ℕ) (x y : A) → slice_get l i ≡ Some x → slice_get (set l i y) i ≡ Some y
   placed_set [] i x y e = none_some e
   placed_set (z ∷ l) zero x y e = refl
   placed_set (z ∷ l) (suc i) x y e = placed_set l i x y e
@@ -68,7 +69,7 @@ module _ {A : Type 0} where
   length_removed (y ∷ l) (suc i) = omega (arith, length_removed l i)
 
 -- what is read of each stays, where it is the same of the one that is put there
-pub map_kept : {A B : Type 0} (f : A → B) (l : List A) (i : ℕ) (x y : A) → get_elem? l i ≡ some x → f y ≡ f x → map f (set l i y) ≡ map f l
+pub map_kept : {A B : Type 0} (f : A → B) (l : List A) (i : ℕ) (x y : A) → slice_get l i ≡ Some x → f y ≡ f x → map f (set l i y) ≡ map f l
 map_kept f [] i x y e h = refl
 map_kept f (z ∷ l) zero x y e h = rw (h ∙ ap f (sym (some_same e)))
 map_kept f (z ∷ l) (suc i) x y e h = rw (map_kept f l i x y e h)

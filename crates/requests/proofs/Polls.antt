@@ -3,16 +3,17 @@
 --     poll_first                                               the first request that ended is the answer
 --     waits_exactly                                            `poll` says to wait exactly when none ended
 --     poll_found, poll_none                                    what it says of the request with an identifier
+use Rattle.std.specs.Prelude.{None, Some, slice_get}
 use Prim.Native.Nat.{ℕ, zero, suc, ◌+◌, ◌≤◌, ◌<◌, min, max}
 use mathlib.Core.Path.{◌≡◌, refl, sym, ap, ◌∙◌}
 use mathlib.Core.Bool.{Bool, true, false}
 use mathlib.Core.Logic.{◌↔◌, ◌⊎◌, inl, inr}
+use Rattle.std.proofs.lemmas.Option.{some_pair_parts}
 use mathlib.Core.List.{List, [], ◌∷◌}
-use mathlib.Core.Option.{some}
 use native.Mathlib.Numerals.{add-one}
 use native.Mathlib.Omega.{arith}
 use lib.Dec.{eqb, leb}
-use lib.ListN.{length, take, get_elem?}
+use lib.ListN.{length, take}
 use borrow.Author.Tests.{eqb-true, eqb-false, leb-true, leb-false}
 use Rattle.message.specs.Head.{key}
 use Rattle.message.specs.declared.TransactionId.{TransactionId}
@@ -27,7 +28,6 @@ use Rattle.request.proofs.Answers.{wait_clock_lem}
 use Rattle.requests.specs.Search.{key_of, keys_of, lookup}
 use Rattle.requests.specs.Scan.{hour, reached, poll_from, poll_all}
 use Rattle.requests.specs.Formed.{Ascending}
-use Rattle.requests.specs.declared.Found.TheVariants.{At, Nothing}
 use Rattle.requests.specs.declared.Polled.{Polled}
 use Rattle.requests.specs.declared.Polled.TheVariants.{TimedOut as TimesOut, Cancelled as Cancels, WaitUntil as Waits}
 use Rattle.requests.proofs.Lists.{apart, some_same, none_some}
@@ -76,7 +76,7 @@ module _ (t : Transport) (now : ℕ) where
   -- the request at place i, with that identifier, answers so, and all before it wait
   pub record Ended (l : List StunRequestState) (i : ℕ) (id : TransactionId) (answer : StunRequestPollRet) : Type 0 where
     pub request : StunRequestState
-    pub placed : get_elem? l i ≡ some request
+    pub placed : slice_get l i ≡ Some request
     pub below : i < length l
     pub id_is : request.transaction_id ≡ id
     pub answers : poll_of t now request ≡ answer
@@ -86,8 +86,8 @@ module _ (t : Transport) (now : ℕ) where
   pub record Earliest (most : ℕ) (l : List StunRequestState) (m : ℕ) : Type 0 where
     pub all_wait : NoneEnds t now l
     pub capped : m ≤ most
-    pub least : (i : ℕ) (r : StunRequestState) → get_elem? l i ≡ some r → (clock : ℕ) × (poll_of t now r ≡ WaitUntil clock) × (m ≤ clock)
-    pub one_of : (m ≡ most) ⊎ ((i : ℕ) × (r : StunRequestState) × (get_elem? l i ≡ some r) × (poll_of t now r ≡ WaitUntil m))
+    pub least : (i : ℕ) (r : StunRequestState) → slice_get l i ≡ Some r → (clock : ℕ) × (poll_of t now r ≡ WaitUntil clock) × (m ≤ clock)
+    pub one_of : (m ≡ most) ⊎ ((i : ℕ) × (r : StunRequestState) × (slice_get l i ≡ Some r) × (poll_of t now r ≡ WaitUntil m))
 
   abbrev pub Says : ℕ → List StunRequestState → Polled → Type 0
   Says most l (TimesOut i id) = Ended l i id TimedOut
@@ -114,13 +114,13 @@ module _ (t : Transport) (now : ℕ) where
     one_of = one e.one_of (leb most clock) refl;
   }
     where
-      least' : (i : ℕ) (q : StunRequestState) → get_elem? (r ∷ rs) i ≡ some q → (c : ℕ) × (poll_of t now q ≡ WaitUntil c) × (m ≤ c)
+      least' : (i : ℕ) (q : StunRequestState) → slice_get (r ∷ rs) i ≡ Some q → (c : ℕ) × (poll_of t now q ≡ WaitUntil c) × (m ≤ c)
       least' zero q f = (clock, ap (poll_of t now) (sym (some_same f)) ∙ w, omega (arith, e.capped))
       least' (suc i) q f = e.least i q f
 
-      one : (m ≡ min most clock) ⊎ ((i : ℕ) × (q : StunRequestState) × (get_elem? rs i ≡ some q) × (poll_of t now q ≡ WaitUntil m))
+      one : (m ≡ min most clock) ⊎ ((i : ℕ) × (q : StunRequestState) × (slice_get rs i ≡ Some q) × (poll_of t now q ≡ WaitUntil m))
           → (b : Bool) → leb most clock ≡ b
-          → (m ≡ most) ⊎ ((i : ℕ) × (q : StunRequestState) × (get_elem? (r ∷ rs) i ≡ some q) × (poll_of t now q ≡ WaitUntil m))
+          → (m ≡ most) ⊎ ((i : ℕ) × (q : StunRequestState) × (slice_get (r ∷ rs) i ≡ Some q) × (poll_of t now q ≡ WaitUntil m))
       one (inl z) true b = inl (omega (arith, leb-true most clock b))
       one (inl z) false b =
           let c : clock ≡ m = omega (arith, leb-false most clock b) in
@@ -169,13 +169,13 @@ module _ (t : Transport) (now : ℕ) where
       let s = poll_waits l m e in
       (go s.one_of, s.capped)
     where
-      go : (m ≡ now + hour) ⊎ ((i : ℕ) × (r : StunRequestState) × (get_elem? l i ≡ some r) × (poll_of t now r ≡ WaitUntil m)) → now ≤ m
+      go : (m ≡ now + hour) ⊎ ((i : ℕ) × (r : StunRequestState) × (slice_get l i ≡ Some r) × (poll_of t now r ≡ WaitUntil m)) → now ≤ m
       go (inl z) = omega arith
       go (inr x) = wait_from x.1 m x.3
 
   -- ---- the other way round
 
-  pub none_ends_at : (l : List StunRequestState) (i : ℕ) (r : StunRequestState) → NoneEnds t now l → get_elem? l i ≡ some r
+  pub none_ends_at : (l : List StunRequestState) (i : ℕ) (r : StunRequestState) → NoneEnds t now l → slice_get l i ≡ Some r
       → ends (poll_of t now r) ≡ false
   none_ends_at [] i r b e = none_some e
   none_ends_at (q ∷ qs) zero r b e = rw (some_same e) at b.0
@@ -193,7 +193,7 @@ module _ (t : Transport) (now : ℕ) where
       go Cancelled e f = apart e
       go TimedOut e f = apart e
 
-  first_ended : (most : ℕ) (l : List StunRequestState) (i : ℕ) (r : StunRequestState) (a : StunRequestPollRet) → get_elem? l i ≡ some r
+  first_ended : (most : ℕ) (l : List StunRequestState) (i : ℕ) (r : StunRequestState) (a : StunRequestPollRet) → slice_get l i ≡ Some r
       → NoneEnds t now (take i l) → poll_of t now r ≡ a → ends a ≡ true → poll_from t now 0 most l ≡ report_of a i r.transaction_id
   first_ended most [] i r a e b f h = none_some e
   first_ended most (q ∷ qs) zero r a e b f h = rw (some_same e, f) (report_first a h)
@@ -213,7 +213,7 @@ module _ (t : Transport) (now : ℕ) where
       report_onward TimedOut = refl
 
   module _ (l : List StunRequestState) where
-    pub poll_first : (i : ℕ) (r : StunRequestState) → get_elem? l i ≡ some r → NoneEnds t now (take i l) → ends (poll_of t now r) ≡ true
+    pub poll_first : (i : ℕ) (r : StunRequestState) → slice_get l i ≡ Some r → NoneEnds t now (take i l) → ends (poll_of t now r) ≡ true
         → poll_all t now l ≡ report_of (poll_of t now r) i r.transaction_id
     poll_first i r e b h = first_ended (now + hour) l i r (poll_of t now r) e b refl h
 
@@ -240,13 +240,13 @@ pub data Told (t : Transport) (now i : ℕ) (r : StunRequestState) : Polled → 
   waits : {m clock : ℕ} → poll_of t now r ≡ WaitUntil clock → m ≤ clock → Told t now i r (Waits m)
 
 module _ (t : Transport) (now : ℕ) where
-  module _ (l : List StunRequestState) (i : ℕ) (r : StunRequestState) (order : Ascending (keys_of l)) (placed : get_elem? l i ≡ some r) where
+  module _ (l : List StunRequestState) (i : ℕ) (r : StunRequestState) (order : Ascending (keys_of l)) (placed : slice_get l i ≡ Some r) where
     -- a request at another place has another key
-    elsewhere : (j : ℕ) (q : StunRequestState) → get_elem? l j ≡ some q → (j ≡ i → ⊥) → key_of q ≡ key_of r → ⊥
+    elsewhere : (j : ℕ) (q : StunRequestState) → slice_get l j ≡ Some q → (j ≡ i → ⊥) → key_of q ≡ key_of r → ⊥
     elsewhere j q e n k =
-        let a : lookup (key_of r) l ≡ At j q = rw k at (placed_found j q l order e) in
-        let b : lookup (key_of r) l ≡ At i r = placed_found i r l order placed in
-        n cc
+        let a : lookup (key_of r) l ≡ Some (j, q) = rw k at (placed_found j q l order e) in
+        let b : lookup (key_of r) l ≡ Some (i, r) = placed_found i r l order placed in
+        n (some_pair_parts _ _ _ _ (sym a ∙ b)).0
 
     -- the request that ended is r, at its place; or it is another one, at another place
     which : (j : ℕ) (id : TransactionId) (answer : StunRequestPollRet) → Ended t now l j id answer
@@ -278,12 +278,12 @@ module _ (t : Transport) (now : ℕ) where
         go (Cancels j id) s = ceased j id (which j id Cancelled s)
         go (Waits m) s = let w = s.least i r placed in waits w.1 w.2
 
-  pub poll_found : (l : List StunRequestState) (k i : ℕ) (r : StunRequestState) → Ascending (keys_of l) → lookup k l ≡ At i r
+  pub poll_found : (l : List StunRequestState) (k i : ℕ) (r : StunRequestState) → Ascending (keys_of l) → lookup k l ≡ Some (i, r)
       → Told t now i r (poll_all t now l)
   poll_found l k i r order e = poll_at l i r order (found_at k i r l e).placed
 
   -- `poll` names no request that isn't there
-  pub poll_none : (l : List StunRequestState) (k i : ℕ) (id : TransactionId) (answer : StunRequestPollRet) → lookup k l ≡ Nothing
+  pub poll_none : (l : List StunRequestState) (k i : ℕ) (id : TransactionId) (answer : StunRequestPollRet) → lookup k l ≡ None
       → Ended t now l i id answer → key id ≡ k → ⊥
   poll_none l k i id answer e s z =
       among_placed k l i s.request ((none_exactly k l).0 e) s.placed (ap key s.id_is ∙ z)

@@ -4,16 +4,17 @@
 --     place_most, added_cons                        the place of a new request, and the list with it
 --     rows_added, .., set_within                    order, rows and limits after `added`, `remove_at` and `set`
 --     lookup_added, .., lookup_set_other            looking after a change, for the same identifier and for another
+use Rattle.std.specs.Prelude.{Option, None, Some, slice_get}
 use Prim.Native.Nat.{ℕ, zero, suc, ◌≤◌, ◌<◌}
 use mathlib.Core.Path.{◌≡◌, refl, sym, ap, ◌∙◌}
 use mathlib.Core.Bool.{Bool, true, false, cond, ◌||◌}
 use mathlib.Core.Logic.{◌↔◌}
+use Rattle.std.proofs.lemmas.Option.{some_pair_parts}
 use mathlib.Core.List.{List, [], ◌∷◌, ◌++◌}
-use mathlib.Core.Option.{some}
 use native.Mathlib.Numerals.{add-one}
 use native.Mathlib.Omega.{arith}
 use lib.Dec.{eqb, ltb}
-use lib.ListN.{length, take, drop, set, get_elem?}
+use lib.ListN.{length, take, drop, set}
 use lib.Seq.{take-set-le}
 use borrow.Author.Tests.{eqb-true, eqb-false, eq-eqb, ne_eqb, ltb-true, ltb-false}
 use Rattle.rows.specs.Lists.{insert_at, remove_at, among}
@@ -23,27 +24,25 @@ use Rattle.request.specs.declared.StunRequestState.{StunRequestState}
 use Rattle.request.proofs.Limits.{limits_later}
 use Rattle.requests.specs.Search.{key_of, keys_of, row_of, rows_of, lookup_from, lookup, place_from, place_of, added, request_of}
 use Rattle.requests.specs.Formed.{Ascending, Different, AllWithin}
-use Rattle.requests.specs.declared.Found.{Found}
-use Rattle.requests.specs.declared.Found.TheVariants.{At, Nothing}
 use Rattle.requests.proofs.Lists.{neither, some_same, none_some, placed_below, placed_split, placed_set, map_kept, ascending_tail, ascending_lower, ascending_absent, insert_different, remove_different, remove_ascending}
 
 -- one place further on
-abbrev pub onward : Found → Found
-onward (At i r) = At (suc i) r
-onward Nothing = Nothing
+abbrev pub onward : Option (ℕ × StunRequestState) → Option (ℕ × StunRequestState)
+onward (Some (i, r)) = Some ((suc i), r)
+onward None = None
 
 lookup_onward : (i k : ℕ) (l : List StunRequestState) → lookup_from (suc i) k l ≡ onward (lookup_from i k l)
 lookup_onward i k [] = refl
 lookup_onward i k (r ∷ rs) = rw (add-one i, add-one (suc i)) (go (eqb (key_of r) k) (lookup_onward (suc i) k rs))
   where
     go : (b : Bool) → lookup_from (suc (suc i)) k rs ≡ onward (lookup_from (suc i) k rs)
-        → cond b (At (suc i) r) (lookup_from (suc (suc i)) k rs) ≡ onward (cond b (At i r) (lookup_from (suc i) k rs))
+        → cond b (Some ((suc i), r)) (lookup_from (suc (suc i)) k rs) ≡ onward (cond b (Some (i, r)) (lookup_from (suc i) k rs))
     go true e = refl
     go false e = e
 
 -- `lookup` and `place_of` by recursion on the list
 pub lookup_cons : (k : ℕ) (r : StunRequestState) (rs : List StunRequestState)
-    → lookup k (r ∷ rs) ≡ cond (eqb (key_of r) k) (At 0 r) (onward (lookup k rs))
+    → lookup k (r ∷ rs) ≡ cond (eqb (key_of r) k) (Some (0, r)) (onward (lookup k rs))
 lookup_cons k r rs = rw (lookup_onward 0 k rs)
 
 place_onward : (i k : ℕ) (l : List StunRequestState) → place_from (suc i) k l ≡ suc (place_from i k l)
@@ -79,33 +78,32 @@ added_cons r q qs = rw (place_cons (key_of r) q qs) (go (ltb (key_of q) (key_of 
 
 -- the request r with the key k stands at place i, and none before it has that key
 pub record FoundAt (k i : ℕ) (r : StunRequestState) (l : List StunRequestState) : Type 0 where
-  pub placed : get_elem? l i ≡ some r
+  pub placed : slice_get l i ≡ Some r
   pub below : i < length l
   pub split : l ≡ take i l ++ (r ∷ drop (suc i) l)
   pub key_is : key_of r ≡ k
   pub first : among k (keys_of (take i l)) ≡ false
 
-found_says : (k i : ℕ) (r : StunRequestState) (l : List StunRequestState) → lookup k l ≡ At i r
-    → (get_elem? l i ≡ some r) × (key_of r ≡ k) × (among k (keys_of (take i l)) ≡ false)
+found_says : (k i : ℕ) (r : StunRequestState) (l : List StunRequestState) → lookup k l ≡ Some (i, r)
+    → (slice_get l i ≡ Some r) × (key_of r ≡ k) × (among k (keys_of (take i l)) ≡ false)
 found_says k i r [] e = let z : ◌≡◌ {A = ℕ} 0 1 = cc in absurd (omega arith)
 found_says k i r (q ∷ qs) e = go (eqb (key_of q) k) refl (lookup k qs) refl (rw (lookup_cons k q qs) at e) (λ j. found_says k j r qs)
   where
-    here : 0 ≡ i → q ≡ r → key_of q ≡ k → (get_elem? (q ∷ qs) i ≡ some r) × (key_of r ≡ k) × (among k (keys_of (take i (q ∷ qs))) ≡ false)
+    here : 0 ≡ i → q ≡ r → key_of q ≡ k → (slice_get (q ∷ qs) i ≡ Some r) × (key_of r ≡ k) × (among k (keys_of (take i (q ∷ qs))) ≡ false)
     here z s h = rw (← z, ← s) (refl, h, refl)
 
-    go : (b : Bool) → eqb (key_of q) k ≡ b → (f : Found) → lookup k qs ≡ f → cond b (At 0 q) (onward f) ≡ At i r
-        → ((j : ℕ) → lookup k qs ≡ At j r → (get_elem? qs j ≡ some r) × (key_of r ≡ k) × (among k (keys_of (take j qs)) ≡ false))
-        → (get_elem? (q ∷ qs) i ≡ some r) × (key_of r ≡ k) × (among k (keys_of (take i (q ∷ qs))) ≡ false)
-    go true b f g h ih = here (cc) (cc) (eqb-true (key_of q) k b)
-    go false b (At j p) g h ih =
-        let s : p ≡ r = cc in
-        let z : suc j ≡ i = cc in
-        let t = ih j (g ∙ ap (At j) s) in
-        rw (← z, b) t
-    go false b Nothing g h ih = let z : ◌≡◌ {A = ℕ} 0 1 = cc in absurd (omega arith)
+    go : (b : Bool) → eqb (key_of q) k ≡ b → (f : Option (ℕ × StunRequestState)) → lookup k qs ≡ f → cond b (Some (0, q)) (onward f) ≡ Some (i, r)
+        → ((j : ℕ) → lookup k qs ≡ Some (j, r) → (slice_get qs j ≡ Some r) × (key_of r ≡ k) × (among k (keys_of (take j qs)) ≡ false))
+        → (slice_get (q ∷ qs) i ≡ Some r) × (key_of r ≡ k) × (among k (keys_of (take i (q ∷ qs))) ≡ false)
+    go true b f g h ih = let s = some_pair_parts _ _ _ _ h in here s.0 s.1 (eqb-true (key_of q) k b)
+    go false b (Some (j, p)) g h ih =
+        let s = some_pair_parts _ _ _ _ h in
+        let t = ih j (g ∙ ap (λ (r : StunRequestState). Some (j, r)) s.1) in
+        rw (← s.0, b) t
+    go false b None g h ih = let z : ◌≡◌ {A = ℕ} 0 1 = cc in absurd (omega arith)
 
-found_holds : (k i : ℕ) (r : StunRequestState) (l : List StunRequestState) → get_elem? l i ≡ some r → key_of r ≡ k
-    → among k (keys_of (take i l)) ≡ false → lookup k l ≡ At i r
+found_holds : (k i : ℕ) (r : StunRequestState) (l : List StunRequestState) → slice_get l i ≡ Some r → key_of r ≡ k
+    → among k (keys_of (take i l)) ≡ false → lookup k l ≡ Some (i, r)
 found_holds k i r [] e h f = none_some e
 found_holds k zero r (q ∷ qs) e h f =
     let s : q ≡ r = some_same e in
@@ -115,35 +113,35 @@ found_holds k (suc i) r (q ∷ qs) e h f =
     lookup_cons k q qs ∙ rw (p.0, found_holds k i r qs e h p.1)
 
 module _ (k i : ℕ) (r : StunRequestState) (l : List StunRequestState) where
-  pub found_at : lookup k l ≡ At i r → FoundAt k i r l
+  pub found_at : lookup k l ≡ Some (i, r) → FoundAt k i r l
   found_at e =
       let s = found_says k i r l e in
       record { placed = s.0; below = placed_below l i r s.0; split = placed_split l i r s.0; key_is = s.1; first = s.2 }
 
-  pub found_exactly : (lookup k l ≡ At i r) ↔ FoundAt k i r l
+  pub found_exactly : (lookup k l ≡ Some (i, r)) ↔ FoundAt k i r l
   found_exactly = (found_at, λ f. found_holds k i r l f.placed f.key_is f.first)
 
-none_says : (k : ℕ) (l : List StunRequestState) → lookup k l ≡ Nothing → among k (keys_of l) ≡ false
+none_says : (k : ℕ) (l : List StunRequestState) → lookup k l ≡ None → among k (keys_of l) ≡ false
 none_says k [] e = refl
 none_says k (q ∷ qs) e = go (eqb (key_of q) k) (lookup k qs) refl (rw (lookup_cons k q qs) at e) (none_says k qs)
   where
-    go : (b : Bool) (f : Found) → lookup k qs ≡ f → cond b (At 0 q) (onward f) ≡ Nothing → (lookup k qs ≡ Nothing → among k (keys_of qs) ≡ false)
+    go : (b : Bool) (f : Option (ℕ × StunRequestState)) → lookup k qs ≡ f → cond b (Some (0, q)) (onward f) ≡ None → (lookup k qs ≡ None → among k (keys_of qs) ≡ false)
         → (b || among k (keys_of qs)) ≡ false
     go true f g h ih = let z : ◌≡◌ {A = ℕ} 0 1 = cc in absurd (omega arith)
-    go false (At j p) g h ih = let z : ◌≡◌ {A = ℕ} 0 1 = cc in absurd (omega arith)
-    go false Nothing g h ih = ih g
+    go false (Some (j, p)) g h ih = let z : ◌≡◌ {A = ℕ} 0 1 = cc in absurd (omega arith)
+    go false None g h ih = ih g
 
-none_holds : (k : ℕ) (l : List StunRequestState) → among k (keys_of l) ≡ false → lookup k l ≡ Nothing
+none_holds : (k : ℕ) (l : List StunRequestState) → among k (keys_of l) ≡ false → lookup k l ≡ None
 none_holds k [] e = refl
 none_holds k (q ∷ qs) e =
     let p = neither (eqb (key_of q) k) (among k (keys_of qs)) e in
     lookup_cons k q qs ∙ rw (p.0, none_holds k qs p.1)
 
-pub none_exactly : (k : ℕ) (l : List StunRequestState) → (lookup k l ≡ Nothing) ↔ (among k (keys_of l) ≡ false)
+pub none_exactly : (k : ℕ) (l : List StunRequestState) → (lookup k l ≡ None) ↔ (among k (keys_of l) ≡ false)
 none_exactly k l = (none_says k l, none_holds k l)
 
 -- a request that stands in the list has another key than one that isn't among the keys
-pub among_placed : (k : ℕ) (l : List StunRequestState) (i : ℕ) (r : StunRequestState) → among k (keys_of l) ≡ false → get_elem? l i ≡ some r
+pub among_placed : (k : ℕ) (l : List StunRequestState) (i : ℕ) (r : StunRequestState) → among k (keys_of l) ≡ false → slice_get l i ≡ Some r
     → key_of r ≡ k → ⊥
 among_placed k [] i r n e z = none_some e
 among_placed k (q ∷ qs) zero r n e z =
@@ -151,15 +149,15 @@ among_placed k (q ∷ qs) zero r n e z =
 among_placed k (q ∷ qs) (suc i) r n e z = among_placed k qs i r (neither (eqb (key_of q) k) (among k (keys_of qs)) n).1 e z
 
 -- in ascending order each request is found where it stands
-pub placed_found : (i : ℕ) (r : StunRequestState) (l : List StunRequestState) → Ascending (keys_of l) → get_elem? l i ≡ some r
-    → lookup (key_of r) l ≡ At i r
+pub placed_found : (i : ℕ) (r : StunRequestState) (l : List StunRequestState) → Ascending (keys_of l) → slice_get l i ≡ Some r
+    → lookup (key_of r) l ≡ Some (i, r)
 placed_found i r [] s e = none_some e
 placed_found zero r (q ∷ qs) s e =
     let z : q ≡ r = some_same e in
     rw (z, eq-eqb (key_of r) (key_of r) refl)
 placed_found (suc i) r (q ∷ qs) s e = go (eqb (key_of q) (key_of r)) refl (placed_found i r qs (ascending_tail (key_of q) (keys_of qs) s) e)
   where
-    go : (b : Bool) → eqb (key_of q) (key_of r) ≡ b → lookup (key_of r) qs ≡ At i r → lookup (key_of r) (q ∷ qs) ≡ At (suc i) r
+    go : (b : Bool) → eqb (key_of q) (key_of r) ≡ b → lookup (key_of r) qs ≡ Some (i, r) → lookup (key_of r) (q ∷ qs) ≡ Some ((suc i), r)
     go true b f =
         let n = none_holds (key_of r) qs (ascending_absent (key_of q) (key_of r) (keys_of qs) s (omega (arith, eqb-true (key_of q) (key_of r) b))) in
         let z : ◌≡◌ {A = ℕ} 0 1 = cc in absurd (omega arith)
@@ -178,7 +176,7 @@ module _ (l : List StunRequestState) (i : ℕ) where
   pub rows_removed : rows_of (remove_at l i) ≡ remove_at (rows_of l) i
   rows_removed = map_remove_at row_of l i
 
-  module _ (r q : StunRequestState) (placed : get_elem? l i ≡ some r) where
+  module _ (r q : StunRequestState) (placed : slice_get l i ≡ Some r) where
     pub keys_set : key_of q ≡ key_of r → keys_of (set l i q) ≡ keys_of l
     keys_set h = map_kept key_of l i r q placed h
 
@@ -249,7 +247,7 @@ module _ (rows mark : ℕ) where
   later_within later h (r ∷ rs) w = (limits_later rows mark later r h w.0, later_within later h rs w.1)
 
   -- the limits of the request at a place
-  pub placed_within : (l : List StunRequestState) (i : ℕ) (r : StunRequestState) → AllWithin rows mark l → get_elem? l i ≡ some r
+  pub placed_within : (l : List StunRequestState) (i : ℕ) (r : StunRequestState) → AllWithin rows mark l → slice_get l i ≡ Some r
       → RequestLimits rows mark r
   placed_within [] i r w e = none_some e
   placed_within (q ∷ qs) zero r w e = rw (some_same e) at w.0
@@ -258,25 +256,25 @@ module _ (rows mark : ℕ) where
 -- ---- looking after a change
 
 -- `request_of` of a look, by recursion on the list
-onward_request : (f : Found) → request_of (onward f) ≡ request_of f
-onward_request (At i r) = refl
-onward_request Nothing = refl
+onward_request : (f : Option (ℕ × StunRequestState)) → request_of (onward f) ≡ request_of f
+onward_request (Some (i, r)) = refl
+onward_request None = refl
 
 pub request_cons : (k : ℕ) (r : StunRequestState) (rs : List StunRequestState)
-    → request_of (lookup k (r ∷ rs)) ≡ cond (eqb (key_of r) k) (some r) (request_of (lookup k rs))
+    → request_of (lookup k (r ∷ rs)) ≡ cond (eqb (key_of r) k) (Some r) (request_of (lookup k rs))
 request_cons k r rs = rw (lookup_cons k r rs) (go (eqb (key_of r) k))
   where
-    go : (b : Bool) → request_of (cond b (At 0 r) (onward (lookup k rs))) ≡ cond b (some r) (request_of (lookup k rs))
+    go : (b : Bool) → request_of (cond b (Some (0, r)) (onward (lookup k rs))) ≡ cond b (Some r) (request_of (lookup k rs))
     go true = refl
     go false = onward_request (lookup k rs)
 
 -- the new request is found at its place
-pub lookup_added : (r : StunRequestState) (l : List StunRequestState) → lookup (key_of r) (added r l) ≡ At (place_of (key_of r) l) r
+pub lookup_added : (r : StunRequestState) (l : List StunRequestState) → lookup (key_of r) (added r l) ≡ Some ((place_of (key_of r) l), r)
 lookup_added r [] = rw (eq-eqb (key_of r) (key_of r) refl)
 lookup_added r (q ∷ qs) = rw (added_cons r q qs, place_cons (key_of r) q qs) (go (ltb (key_of q) (key_of r)) refl (lookup_added r qs))
   where
-    go : (b : Bool) → ltb (key_of q) (key_of r) ≡ b → lookup (key_of r) (added r qs) ≡ At (place_of (key_of r) qs) r
-        → lookup (key_of r) (cond b (q ∷ added r qs) (r ∷ (q ∷ qs))) ≡ At (cond b (suc (place_of (key_of r) qs)) 0) r
+    go : (b : Bool) → ltb (key_of q) (key_of r) ≡ b → lookup (key_of r) (added r qs) ≡ Some ((place_of (key_of r) qs), r)
+        → lookup (key_of r) (cond b (q ∷ added r qs) (r ∷ (q ∷ qs))) ≡ Some ((cond b (suc (place_of (key_of r) qs)) 0), r)
     go true b ih =
         let n : eqb (key_of q) (key_of r) ≡ false = ne_eqb (key_of q) (key_of r) (λ e. omega (arith, ltb-true (key_of q) (key_of r) b)) in
         lookup_cons (key_of r) q (added r qs) ∙ rw (n, ih)
@@ -293,15 +291,15 @@ lookup_added_other k r (q ∷ qs) n = rw (added_cons r q qs) (go (ltb (key_of q)
     go false ih = request_cons k r (q ∷ qs) ∙ rw (ne_eqb (key_of r) k n)
 
 -- in ascending order a request behind the first has another key
-pub placed_other : (a i : ℕ) (r : StunRequestState) (l : List StunRequestState) → Ascending (a ∷ keys_of l) → get_elem? l i ≡ some r → a ≡ key_of r → ⊥
+pub placed_other : (a i : ℕ) (r : StunRequestState) (l : List StunRequestState) → Ascending (a ∷ keys_of l) → slice_get l i ≡ Some r → a ≡ key_of r → ⊥
 placed_other a i r [] s e z = none_some e
 placed_other a zero r (q ∷ qs) s e z = let h : a < key_of q = s.0 in omega (arith, ap key_of (some_same e))
 placed_other a (suc i) r (q ∷ qs) s e z =
     placed_other a i r qs (ascending_lower a (key_of q) (keys_of qs) (let h : a < key_of q = s.0 in omega arith) s.1) e z
 
 -- so none has the key of the one that was taken out
-pub lookup_removed : (i : ℕ) (r : StunRequestState) (l : List StunRequestState) → Ascending (keys_of l) → get_elem? l i ≡ some r
-    → lookup (key_of r) (remove_at l i) ≡ Nothing
+pub lookup_removed : (i : ℕ) (r : StunRequestState) (l : List StunRequestState) → Ascending (keys_of l) → slice_get l i ≡ Some r
+    → lookup (key_of r) (remove_at l i) ≡ None
 lookup_removed i r [] s e = none_some e
 lookup_removed zero r (q ∷ qs) s e =
     none_holds (key_of r) qs (ascending_absent (key_of q) (key_of r) (keys_of qs) s (omega (arith, ap key_of (some_same e))))
@@ -309,7 +307,7 @@ lookup_removed (suc i) r (q ∷ qs) s e =
     let n : eqb (key_of q) (key_of r) ≡ false = ne_eqb (key_of q) (key_of r) (placed_other (key_of q) i r qs s e) in
     lookup_cons (key_of r) q (remove_at qs i) ∙ rw (n, lookup_removed i r qs (ascending_tail (key_of q) (keys_of qs) s) e)
 
-pub lookup_removed_other : (k i : ℕ) (r : StunRequestState) (l : List StunRequestState) → get_elem? l i ≡ some r → (key_of r ≡ k → ⊥)
+pub lookup_removed_other : (k i : ℕ) (r : StunRequestState) (l : List StunRequestState) → slice_get l i ≡ Some r → (key_of r ≡ k → ⊥)
     → request_of (lookup k (remove_at l i)) ≡ request_of (lookup k l)
 lookup_removed_other k i r [] e n = refl
 lookup_removed_other k zero r (q ∷ qs) e n =
@@ -319,12 +317,12 @@ lookup_removed_other k (suc i) r (q ∷ qs) e n =
     rw (request_cons k q (remove_at qs i), request_cons k q qs, lookup_removed_other k i r qs e n)
 
 -- another record of the same request, put where it was found
-pub lookup_set : (k i : ℕ) (r q : StunRequestState) (l : List StunRequestState) → lookup k l ≡ At i r → key_of q ≡ k → lookup k (set l i q) ≡ At i q
+pub lookup_set : (k i : ℕ) (r q : StunRequestState) (l : List StunRequestState) → lookup k l ≡ Some (i, r) → key_of q ≡ k → lookup k (set l i q) ≡ Some (i, q)
 lookup_set k i r q l e h =
     let f = found_at k i r l e in
     found_holds k i q (set l i q) (placed_set l i r q f.placed) h (rw (take-set-le i l i q (omega arith)) f.first)
 
-pub lookup_set_other : (k i : ℕ) (r q : StunRequestState) (l : List StunRequestState) → get_elem? l i ≡ some r → key_of q ≡ key_of r → (key_of r ≡ k → ⊥)
+pub lookup_set_other : (k i : ℕ) (r q : StunRequestState) (l : List StunRequestState) → slice_get l i ≡ Some r → key_of q ≡ key_of r → (key_of r ≡ k → ⊥)
     → lookup k (set l i q) ≡ lookup k l
 lookup_set_other k i r q [] e h n = refl
 lookup_set_other k zero r q (p ∷ ps) e h n =
@@ -335,11 +333,11 @@ lookup_set_other k (suc i) r q (p ∷ ps) e h n =
     rw (lookup_cons k p (set ps i q), lookup_cons k p ps, lookup_set_other k i r q ps e h n)
 
 -- the same of a request that was found
-module _ (k i : ℕ) (r : StunRequestState) (l : List StunRequestState) (found : lookup k l ≡ At i r) where
+module _ (k i : ℕ) (r : StunRequestState) (l : List StunRequestState) (found : lookup k l ≡ Some (i, r)) where
   found_key : key_of r ≡ k
   found_key = (found_at k i r l found).key_is
 
-  pub lookup_taken : Ascending (keys_of l) → lookup k (remove_at l i) ≡ Nothing
+  pub lookup_taken : Ascending (keys_of l) → lookup k (remove_at l i) ≡ None
   lookup_taken s = rw found_key at (lookup_removed i r l s (found_at k i r l found).placed)
 
   pub lookup_taken_other : (other : ℕ) → (other ≡ k → ⊥) → request_of (lookup other (remove_at l i)) ≡ request_of (lookup other l)

@@ -5,14 +5,14 @@
 --     in_use_exactly                         with different rows: a request's row is in use with a length exactly when the length is its own
 --     row_once                               no two requests share a row
 --     in_use_placed, not_in_use              what is in use is some request's; a row that none has is not in use with any length
+use Rattle.std.specs.Prelude.{Some, slice_get}
 use Prim.Native.Nat.{ℕ, zero, suc, ◌+◌}
 use mathlib.Core.Path.{◌≡◌, refl, sym, ap, ◌∙◌}
 use mathlib.Core.Bool.{Bool, true, false, ◌||◌, and-eq-true_iff}
 use mathlib.Core.Logic.{◌↔◌}
 use mathlib.Core.List.{List, [], ◌∷◌}
-use mathlib.Core.Option.{some}
 use lib.Dec.{eqb}
-use lib.ListN.{drop, get_elem?}
+use lib.ListN.{drop}
 use borrow.Author.Tests.{eq-eqb, ne_eqb, eqb-true}
 use Rattle.rows.specs.Lists.{among}
 use Rattle.request.specs.declared.StunRequestState.{StunRequestState}
@@ -46,7 +46,7 @@ either_true : (a b : Bool) → b ≡ true → (a || b) ≡ true
 either_true true b e = refl
 either_true false b e = e
 
-pub own_in_use : (l : List StunRequestState) (i : ℕ) (r : StunRequestState) → get_elem? l i ≡ some r → in_use r.row r.len l ≡ true
+pub own_in_use : (l : List StunRequestState) (i : ℕ) (r : StunRequestState) → slice_get l i ≡ Some r → in_use r.row r.len l ≡ true
 own_in_use [] i r p = none_some p
 own_in_use (x ∷ l) zero r p = rw (some_same p, has_own r)
 own_in_use (x ∷ l) (suc i) r p = either_true (has r.row r.len x) (in_use r.row r.len l) (own_in_use l i r p)
@@ -61,7 +61,7 @@ not_in_use row len (x ∷ l) e =
 pub record Placed (row len : ℕ) (l : List StunRequestState) : Type 0 where
   pub place : ℕ
   pub request : StunRequestState
-  pub stands : get_elem? l place ≡ some request
+  pub stands : slice_get l place ≡ Some request
   pub is_row : request.row ≡ row
   pub is_length : request.len ≡ len
 
@@ -78,12 +78,12 @@ in_use_placed row len (x ∷ l) e = go (has row len x) refl e (in_use_placed row
         record { place = suc w.place; request = w.request; stands = w.stands; is_row = w.is_row; is_length = w.is_length }
 
 -- a row stands where its request does
-among_placed : (l : List StunRequestState) (i : ℕ) (r : StunRequestState) → get_elem? l i ≡ some r → among (row_of r) (rows_of l) ≡ true
+among_placed : (l : List StunRequestState) (i : ℕ) (r : StunRequestState) → slice_get l i ≡ Some r → among (row_of r) (rows_of l) ≡ true
 among_placed [] i r p = none_some p
 among_placed (x ∷ l) zero r p = rw (some_same p, eq-eqb r.row r.row refl)
 among_placed (x ∷ l) (suc i) r p = either_true (eqb x.row r.row) (among r.row (rows_of l)) (among_placed l i r p)
 
-pub row_once : (l : List StunRequestState) (i j : ℕ) (r q : StunRequestState) → Different (rows_of l) → get_elem? l i ≡ some r → get_elem? l j ≡ some q
+pub row_once : (l : List StunRequestState) (i j : ℕ) (r q : StunRequestState) → Different (rows_of l) → slice_get l i ≡ Some r → slice_get l j ≡ Some q
     → r.row ≡ q.row → r ≡ q
 row_once [] i j r q d e f z = none_some e
 row_once (x ∷ l) zero zero r q d e f z = sym (some_same e) ∙ some_same f
@@ -94,7 +94,7 @@ row_once (x ∷ l) (suc i) zero r q d e f z =
 row_once (x ∷ l) (suc i) (suc j) r q d e f z = row_once l i j r q d.1 e f z
 
 -- with different rows the test of the row's request decides
-in_use_decides : (len : ℕ) (l : List StunRequestState) (i : ℕ) (r : StunRequestState) → Different (rows_of l) → get_elem? l i ≡ some r → in_use r.row len l ≡ eqb r.len len
+in_use_decides : (len : ℕ) (l : List StunRequestState) (i : ℕ) (r : StunRequestState) → Different (rows_of l) → slice_get l i ≡ Some r → in_use r.row len l ≡ eqb r.len len
 in_use_decides len [] i r d p = none_some p
 in_use_decides len (x ∷ l) zero r d p =
     let q : x ≡ r = some_same p in
@@ -108,7 +108,7 @@ in_use_decides len (x ∷ l) (suc i) r d p =
     let n : (x.row ≡ r.row → ⊥) = λ e. d.0 (ap (λ (k : ℕ). among k (rows_of l)) e ∙ among_placed l i r p) in
     rw (ne_eqb x.row r.row n) (in_use_decides len l i r d.1 p)
 
-pub in_use_exactly : (len : ℕ) (l : List StunRequestState) (i : ℕ) (r : StunRequestState) → Different (rows_of l) → get_elem? l i ≡ some r
+pub in_use_exactly : (len : ℕ) (l : List StunRequestState) (i : ℕ) (r : StunRequestState) → Different (rows_of l) → slice_get l i ≡ Some r
     → (in_use r.row len l ≡ true) ↔ (r.len ≡ len)
 in_use_exactly len l i r d p =
     let e = in_use_decides len l i r d p in

@@ -1,5 +1,5 @@
 -- The two scans up the identifiers: document 01, "The agent".
-use Rattle.std.specs.Prelude.{ℕ, ◌+◌, min, List, [], ◌∷◌, ◌++◌}
+use Rattle.std.specs.Prelude.{ℕ, ◌+◌, min, List, [], ◌∷◌, ◌++◌, Option, None, Some}
 use Rattle.waits.specs.Waits.{milliseconds}
 use Rattle.waits.specs.declared.Transport.{Transport}
 use Rattle.request.specs.Request.{transmit_of, poll_of}
@@ -8,14 +8,12 @@ use Rattle.request.specs.declared.StunRequestTransmit.{StunRequestTransmit}
 use Rattle.request.specs.declared.StunRequestTransmit.TheVariants.{Rests, Passes, Goes}
 use Rattle.request.specs.declared.StunRequestPollRet.{StunRequestPollRet}
 use Rattle.request.specs.declared.StunRequestPollRet.TheVariants.{WaitUntil, Cancelled, TimedOut}
-use Rattle.requests.specs.declared.Transmitted.{Transmitted}
-use Rattle.requests.specs.declared.Transmitted.TheVariants.{Sends, Quiet}
 use Rattle.requests.specs.declared.Polled.{Polled}
 use Rattle.requests.specs.declared.Polled.TheVariants.{TimedOut as TimesOut, Cancelled as Cancels, WaitUntil as Waits}
 
 -- What a scan finds, and the places after it.
 pub record Walk (A : Type 0) : Type 0 where
-  pub out : Transmitted
+  pub out : Option StunRequestState
   pub after : List A
 
 -- "`poll_transmit` goes up the identifiers, passes silent steps on its way, and stops at the first request that goes out; later ones
@@ -28,12 +26,12 @@ module _ {A : Type 0} where
 
   -- one place: what its request does, and w is the scan over those behind it
   abbrev pub meet : (StunRequestState → A) → StunRequestTransmit → A → List A → Walk A → Walk A
-  meet new (Goes p) x xs w = record { out = Sends p; after = new p ∷ xs }
+  meet new (Goes p) x xs w = record { out = Some p; after = new p ∷ xs }
   meet new (Passes p) x xs w = behind (new p ∷ []) w
   meet new Rests x xs w = behind (x ∷ []) w
 
   abbrev pub walk_by : (A → StunRequestState) → (StunRequestState → A) → Transport → ℕ → List A → Walk A
-  walk_by get new t now [] = record { out = Quiet; after = [] }
+  walk_by get new t now [] = record { out = None; after = [] }
   walk_by get new t now (x ∷ xs) = meet new (transmit_of t now (get x)) x xs (walk_by get new t now xs)
 
 abbrev pub walk : Transport → ℕ → List StunRequestState → Walk StunRequestState

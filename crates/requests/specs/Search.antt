@@ -1,13 +1,8 @@
 -- Finding a request, the place of a new one, and a row for its bytes.
-use Rattle.std.specs.Prelude.{ℕ, zero, suc, ◌+◌, cond, List, [], ◌∷◌, map, eqb, ltb}
-use Rattle.std.proofs.Math.Option.{Option, none, some}
+use Rattle.std.specs.Prelude.{ℕ, zero, suc, ◌+◌, cond, List, [], ◌∷◌, map, eqb, ltb, Option, None, Some}
 use Rattle.rows.specs.Lists.{insert_at, among}
 use Rattle.message.specs.Head.{key}
 use Rattle.request.specs.declared.StunRequestState.{StunRequestState}
-use Rattle.requests.specs.declared.Found.{Found}
-use Rattle.requests.specs.declared.Found.TheVariants.{At, Nothing}
-use Rattle.requests.specs.declared.FreeRow.{FreeRow}
-use Rattle.requests.specs.declared.FreeRow.TheVariants.{Row, Full}
 
 -- A request's identifier as one number, by which requests are ordered.
 abbrev pub key_of : StunRequestState → ℕ
@@ -23,11 +18,11 @@ abbrev pub rows_of : List StunRequestState → List ℕ
 rows_of l = map row_of l
 
 -- The first request with the key k, and its place counted from i.
-abbrev pub lookup_from : ℕ → ℕ → List StunRequestState → Found
-lookup_from i k [] = Nothing
-lookup_from i k (r ∷ rs) = cond (eqb (key_of r) k) (At i r) (lookup_from (i + 1) k rs)
+abbrev pub lookup_from : ℕ → ℕ → List StunRequestState → Option (ℕ × StunRequestState)
+lookup_from i k [] = None
+lookup_from i k (r ∷ rs) = cond (eqb (key_of r) k) (Some (i, r)) (lookup_from (i + 1) k rs)
 
-abbrev pub lookup : ℕ → List StunRequestState → Found
+abbrev pub lookup : ℕ → List StunRequestState → Option (ℕ × StunRequestState)
 lookup k l = lookup_from 0 k l
 
 -- Where a request with the key k goes: before the first one, counted from i, whose key isn't below k.
@@ -43,14 +38,14 @@ abbrev pub added : StunRequestState → List StunRequestState → List StunReque
 added r l = insert_at l (place_of (key_of r) l) r
 
 -- "A row is free when no outstanding request has it." The lowest free one of n rows, counted from i.
-abbrev pub free_from : ℕ → ℕ → List ℕ → FreeRow
-free_from i zero taken = Full
-free_from i (suc n) taken = cond (among i taken) (free_from (i + 1) n taken) (Row i)
+abbrev pub free_from : ℕ → ℕ → List ℕ → Option ℕ
+free_from i zero taken = None
+free_from i (suc n) taken = cond (among i taken) (free_from (i + 1) n taken) (Some i)
 
-abbrev pub free_row : ℕ → List StunRequestState → FreeRow
+abbrev pub free_row : ℕ → List StunRequestState → Option ℕ
 free_row n l = free_from 0 n (rows_of l)
 
 -- The request that was found, whatever its place.
-abbrev pub request_of : Found → Option StunRequestState
-request_of (At place request) = some request
-request_of Nothing = none
+abbrev pub request_of : Option (ℕ × StunRequestState) → Option StunRequestState
+request_of (Some (place, request)) = Some request
+request_of None = None

@@ -2,12 +2,14 @@
 --     passes, formed, is_x    a call that accepts the request x
 --     delivered               from a request's acceptance to its end
 --     rows_apart              two outstanding requests, in any world that a fresh agent comes to
-use Prim.Native.Nat.{ℕ, zero, suc}
+use Rattle.std.proofs.lemmas.Option.{some_pair_parts}
+use Rattle.model.specs.declared.Refusal.{Refusal}
+use Rattle.std.specs.Prelude.{None, Some, Option, slice_get}
+use Prim.Native.Nat.{ℕ}
 use mathlib.Core.Path.{◌≡◌, refl, sym, ap, ◌∙◌}
 use mathlib.Core.Bool.{Bool, true, false}
 use mathlib.Core.List.{List, [], ◌∷◌}
-use mathlib.Core.Option.{none, some}
-use lib.ListN.{length, get_elem?}
+use lib.ListN.{length}
 use borrow.Author.Tests.{eqb-true, eq-eqb}
 use Rattle.address.specs.declared.Address.{Address}
 use Rattle.message.specs.Head.{key}
@@ -17,7 +19,6 @@ use Rattle.request.proofs.Kept.{submission}
 use Rattle.requests.specs.Search.{key_of, lookup, request_of, place_of}
 use Rattle.requests.specs.Scan.{walk}
 use Rattle.requests.specs.Use.{in_use}
-use Rattle.requests.specs.declared.Found.TheVariants.{At, Nothing}
 use Rattle.requests.proofs.Lists.{apart, is_false, none_some}
 use Rattle.requests.proofs.Search.{found_at, placed_found}
 use Rattle.requests.proofs.Transmits.{walk_sends, sent_placed}
@@ -25,7 +26,7 @@ use Rattle.requests.proofs.Use.{row_once, in_use_exactly}
 use Rattle.model.specs.World.{World, StateFormed, state_formed}
 use Rattle.model.specs.Calls.{submits, sends, receives, transmits, reports, Kind, carries, scans, names, meets, counts}
 use Rattle.model.specs.Refusals.{refusal_of}
-use Rattle.model.specs.Says.{Said, number_in, says_of}
+use Rattle.model.specs.Says.{Said, refused_by, says_of}
 use Rattle.model.specs.Parts.{transmission_of}
 use Rattle.model.specs.Runs.{Turn, run}
 use Rattle.model.specs.declared.Answer.TheVariants as answer
@@ -52,12 +53,12 @@ record Holds (rows x : ℕ) (to : Address) (m : List ℕ) (w : World) : Type 0 w
   formed : StateFormed rows w
   place : ℕ
   request : StunRequestState
-  stands : lookup x w.requests ≡ At place request
+  stands : lookup x w.requests ≡ Some (place, request)
   address : request.to ≡ to
   part : transmission_of rows w request.row request.len ≡ m
 
 -- No part of another length.
-none_else : (rows x : ℕ) (w : World) → StateFormed rows w → (i : ℕ) (r : StunRequestState) (len : ℕ) → lookup x w.requests ≡ At i r
+none_else : (rows x : ℕ) (w : World) → StateFormed rows w → (i : ℕ) (r : StunRequestState) (len : ℕ) → lookup x w.requests ≡ Some (i, r)
     → (r.len ≡ len → ⊥) → transmission_of rows w r.row len ≡ []
 none_else rows x w formed i r len e n =
     let u = in_use_exactly len w.requests i r formed.requests.apart (found_at x i r w.requests e).placed in
@@ -66,7 +67,7 @@ none_else rows x w formed i r len e n =
 -- ---- a call after the acceptance
 
 module _ (rows x : ℕ) (to : Address) (m : List ℕ) (w : World) (h : Holds rows x to m w) (b : List ℕ) where
-  part_after : (k : Kind) (j : ℕ) (q : StunRequestState) → lookup x (says_of rows w k b).world.requests ≡ At j q
+  part_after : (k : Kind) (j : ℕ) (q : StunRequestState) → lookup x (says_of rows w k b).world.requests ≡ Some (j, q)
       → (q.to ≡ to) × (transmission_of rows (says_of rows w k b).world q.row q.len ≡ m)
   part_after k j q e =
       let p = transmission_kept rows w k b h.formed x h.place j h.request q h.stands e in
@@ -80,17 +81,17 @@ module _ (rows x : ℕ) (to : Address) (m : List ℕ) (w : World) (h : Holds row
     sent_again : (now : ℕ) → (says_of rows w (scans transmits now) b).answer ≡ answer.Send id a row len
         → (a ≡ to) × (transmission_of rows (says_of rows w (scans transmits now) b).world row len ≡ m)
     sent_again now e =
-        let passed : refusal_of rows w (scans transmits now) b ≡ 0 = sym (answer_number rows w b (scans transmits now)) ∙ ap number_in e in
+        let passed : refusal_of rows w (scans transmits now) b ≡ None = sym (answer_number rows w b (scans transmits now)) ∙ ap refused_by e in
         let s = scan_said rows w transmits now b passed in
         let t = w.agent.transport in
         let o = sends_out (walk t now w.requests).out id a row len (sym s.answers ∙ e) in
         let f = walk_sends t now w.requests o.0 o.1 in
         let placed = sent_placed t now w.requests o.0 (walk t now w.requests).after f in
         let l' = (says_of rows w (scans transmits now) b).world.requests in
-        let there : get_elem? l' f.place ≡ some o.0 = ap (λ (l : List StunRequestState). get_elem? l f.place) s.requests ∙ placed in
-        let found : lookup (key_of o.0) l' ≡ At f.place o.0 =
+        let there : slice_get l' f.place ≡ Some o.0 = ap (λ (l : List StunRequestState). slice_get l f.place) s.requests ∙ placed in
+        let found : lookup (key_of o.0) l' ≡ Some (f.place, o.0) =
         placed_found f.place o.0 l' (says_formed rows w (scans transmits now) b h.formed).requests.order there in
-        let here : lookup x l' ≡ At f.place o.0 = ap (λ (n : ℕ). lookup n l') (sym (ap key o.2 ∙ is)) ∙ found in
+        let here : lookup x l' ≡ Some (f.place, o.0) = ap (λ (n : ℕ). lookup n l') (sym (ap key o.2 ∙ is)) ∙ found in
         let p = part_after (scans transmits now) f.place o.0 here in
         (sym o.3 ∙ p.0, rw (o.4, o.5) at p.1)
 
@@ -113,7 +114,7 @@ module _ (rows x : ℕ) (to : Address) (m : List ℕ) (w : World) (h : Holds row
     no_other = λ j q len e n. none_else rows x (says_of rows w k b).world (says_formed rows w k b h.formed) j q len e n;
   }
 
-  holds_after : (k : Kind) → end_by x k b (says_of rows w k b).answer ≡ none → Holds rows x to m (says_of rows w k b).world
+  holds_after : (k : Kind) → end_by x k b (says_of rows w k b).answer ≡ None → Holds rows x to m (says_of rows w k b).world
   holds_after k n =
       let q = stays_call rows x w k b h.request (ap request_of h.stands) n in
       let f = found_of (lookup x (says_of rows w k b).world.requests) q.1 in
@@ -140,13 +141,13 @@ module _ (rows x : ℕ) (w : World) (q : Submission) (taken : submits_it x (exch
   abbrev pub turned : Said
   turned = said rows w (submission_of q)
 
-  pub passes : refusal_of rows w (carries (submits q.to q.now)) q.bytes ≡ 0
+  pub passes : refusal_of rows w (carries (submits q.to q.now)) q.bytes ≡ None
   passes = go (refusal_of rows w (carries (submits q.to q.now)) q.bytes) refl
     where
-      go : (n : ℕ) → refusal_of rows w (carries (submits q.to q.now)) q.bytes ≡ n → n ≡ 0
-      go zero e = refl
-      go (suc n) e =
-          apart (sym taken ∙ ap (λ (s : Said). hands_out_it x s.answer) (refused_same rows w (carries (submits q.to q.now)) q.bytes n e))
+      go : (o : Option Refusal) → refusal_of rows w (carries (submits q.to q.now)) q.bytes ≡ o → o ≡ None
+      go None e = refl
+      go (Some r) e =
+          apart (sym taken ∙ ap (λ (s : Said). hands_out_it x s.answer) (refused_same rows w (carries (submits q.to q.now)) q.bytes r e))
 
   pub formed : StateFormed rows w
   formed = passed_formed rows w (carries (submits q.to q.now)) q.bytes passes
@@ -179,8 +180,8 @@ module _ (rows x : ℕ) (w : World) (q : Submission) (taken : submits_it x (exch
       no_other = λ i r len e n. none_else rows x turned.world holds.formed i r len e n;
     }
       where
-        same : (i : ℕ) (r : StunRequestState) → lookup x turned.world.requests ≡ At i r → r ≡ holds.request
-        same i r e = let z : At i r ≡ At holds.place holds.request = sym e ∙ holds.stands in cc
+        same : (i : ℕ) (r : StunRequestState) → lookup x turned.world.requests ≡ Some (i, r) → r ≡ holds.request
+        same i r e = (some_pair_parts _ _ _ _ (sym e ∙ holds.stands)).1
 
         first : (id : TransactionId) (to : Address) (row len : ℕ)
             → answer.Send a.message.transaction_id q.to a.row (length q.bytes) ≡ answer.Send id to row len
@@ -199,8 +200,8 @@ module _ (rows x : ℕ) (w : World) (q : Submission) (taken : submits_it x (exch
 
 -- ---- rows
 
-pub rows_apart : (rows : ℕ) (s : Start) (ts : List Turn) (x y i j : ℕ) (r q : StunRequestState) → lookup x (run rows (begins s) ts).requests ≡ At i r
-    → lookup y (run rows (begins s) ts).requests ≡ At j q → r.row ≡ q.row → x ≡ y
+pub rows_apart : (rows : ℕ) (s : Start) (ts : List Turn) (x y i j : ℕ) (r q : StunRequestState) → lookup x (run rows (begins s) ts).requests ≡ Some (i, r)
+    → lookup y (run rows (begins s) ts).requests ≡ Some (j, q) → r.row ≡ q.row → x ≡ y
 rows_apart rows s ts x y i j r q e f z = go (state_formed rows (begins s)) refl
   where
     l : List StunRequestState
@@ -214,5 +215,5 @@ rows_apart rows s ts x y i j r q e f z = go (state_formed rows (begins s)) refl
         let same : r ≡ q = row_once l i j r q formed.requests.apart g.placed h.placed z in
         sym g.key_is ∙ ap key_of same ∙ h.key_is
     go false b =
-        let none-there : Nothing ≡ At i r = sym (ap (λ (w : World). lookup x w.requests) (unformed_run rows (begins s) ts b)) ∙ e in
+        let none-there : None ≡ Some (i, r) = sym (ap (λ (w : World). lookup x w.requests) (unformed_run rows (begins s) ts b)) ∙ e in
         none_some (ap request_of none-there)

@@ -1,40 +1,37 @@
 -- The conservation law: requests sent equal responses received, timed out, cancelled and still in the table.
 --     balanced        over the calls and answers of any run from a fresh agent
 --     conserved       of the record, below the stop, with the answer of the query for the outstanding count
-use Prim.Native.Nat.{ℕ, zero, suc, ◌+◌}
+use Rattle.model.specs.declared.Refusal.{Refusal}
+use Rattle.model.specs.declared.Refusal.TheVariants.{WrongClass}
+use Rattle.std.specs.Prelude.{None, Some, Option}
+use Rattle.message.specs.declared.Message.{Message}
+use Prim.Native.Nat.{ℕ, ◌+◌}
 use mathlib.Core.Path.{◌≡◌, refl, sym, ap, ◌∙◌}
 use mathlib.Core.Bool.{Bool, true, false, cond}
 use mathlib.Core.List.{List, [], ◌∷◌}
-use mathlib.Core.Option.{Option}
 use native.Mathlib.Omega.{arith}
 use lib.ListN.{length, length-set}
 use Rattle.rows.proofs.Lists.{length_insert_at, length_remove_at}
 use Rattle.address.specs.declared.Address.{Address}
 use Rattle.message.specs.Head.{key}
 use Rattle.message.specs.Attributes.{message_of}
-use Rattle.message.specs.declared.Parsed.{Parsed}
-use Rattle.message.specs.declared.Parsed.TheVariants.{Good, Bad}
 use Rattle.waits.specs.declared.Transport.{Transport}
 use Rattle.request.specs.Request as one
 use Rattle.request.specs.Request.{silenced, configured}
 use Rattle.request.specs.declared.StunRequestState.{StunRequestState}
 use Rattle.requests.specs.Search.{key_of, lookup, place_of}
 use Rattle.requests.specs.Scan.{hour, poll_all}
-use Rattle.requests.specs.declared.Found.{Found}
-use Rattle.requests.specs.declared.Found.TheVariants.{At, Nothing}
 use Rattle.requests.specs.declared.Polled.{Polled}
 use Rattle.requests.specs.declared.Polled.TheVariants.{TimedOut, Cancelled, WaitUntil}
 use Rattle.requests.proofs.Search.{found_at}
 use Rattle.requests.proofs.Transmits.{walk_length}
 use Rattle.requests.proofs.Polls.{Says, poll_says}
 use Rattle.stats.specs.Query.{outstanding_of, outstanding_count}
-use Rattle.stats.specs.declared.Outstanding.{Outstanding}
-use Rattle.stats.specs.declared.Outstanding.TheVariants.{Count}
 use Rattle.stats.proofs.Query.{not_below_zero}
 use Rattle.model.specs.World.{World}
 use Rattle.model.specs.Calls.{submits, sends, receives, transmits, reports, Wish, silence, cancel, configure, query, unsettled, Kind, carries, scans, names, meets, counts}
 use Rattle.model.specs.Accepts.{on_message, is_response, accepts}
-use Rattle.model.specs.Refusals.{WRONG_CLASS, is_request, refusal_of}
+use Rattle.model.specs.Refusals.{is_request, refusal_of}
 use Rattle.model.specs.Effects.{on_found, keeps, changed, taken, answered, reported, wished, yes_or_no, poll_answer}
 use Rattle.model.specs.Says.{says_of}
 use Rattle.model.specs.Runs.{Turn, with, run}
@@ -61,11 +58,11 @@ abbrev Keeps : Exchange → List StunRequestState → List StunRequestState → 
 Keeps e l l' = requests_sent e + length l ≡ settles e + length l'
 
 module _ (from : Address) (clock : Option ℕ) (m : List ℕ) (t : Transport) (l : List StunRequestState) where
-  received_keeps : (p : Parsed) → message_of m ≡ p
+  received_keeps : (p : Option Message) → message_of m ≡ p
       → Keeps (seen (carries (receives from clock)) m (on_message p answer.No (λ x. yes_or_no (accepts l from x)))) l
       (changed t (on_message p keeps (answered l from)) l)
-  received_keeps Bad e = refl
-  received_keeps (Good x) e = go (accepts l from x) refl (is_response x.class) refl
+  received_keeps None e = refl
+  received_keeps (Some x) e = go (accepts l from x) refl (is_response x.class) refl
     where
       go : (a : Bool) → accepts l from x ≡ a → (b : Bool) → is_response x.class ≡ b
           → Keeps (seen (carries (receives from clock)) m (yes_or_no a)) l
@@ -82,15 +79,15 @@ module _ (now : ℕ) (m : List ℕ) (t : Transport) (l : List StunRequestState) 
   poll_keeps (Cancelled i id) s = omega (arith, length_remove_at l i s.below)
   poll_keeps (WaitUntil clock) s = refl
 
-wish_length : (t : Transport) (l : List StunRequestState) (wish : Wish) (f : Found) → length (changed t (on_found f keeps (wished wish)) l) ≡ length l
-wish_length t l wish Nothing = refl
-wish_length t l silence (At i r) = length-set l i (silenced r)
-wish_length t l cancel (At i r) = length-set l i (one.cancelled r)
-wish_length t l (configure rto) (At i r) = length-set l i (configured rto r)
-wish_length t l query (At i r) = refl
+wish_length : (t : Transport) (l : List StunRequestState) (wish : Wish) (f : Option (ℕ × StunRequestState)) → length (changed t (on_found f keeps (wished wish)) l) ≡ length l
+wish_length t l wish None = refl
+wish_length t l silence (Some (i, r)) = length-set l i (silenced r)
+wish_length t l cancel (Some (i, r)) = length-set l i (one.cancelled r)
+wish_length t l (configure rto) (Some (i, r)) = length-set l i (configured rto r)
+wish_length t l query (Some (i, r)) = refl
 
 module _ (rows : ℕ) (w : World) (m : List ℕ) where
-  passed_keeps : (k : Kind) → refusal_of rows w k m ≡ 0
+  passed_keeps : (k : Kind) → refusal_of rows w k m ≡ None
       → Keeps (seen k m (says_of rows w k m).answer) w.requests (says_of rows w k m).world.requests
   passed_keeps (carries (submits to now)) e =
       let a = request_accepted rows w to now m (passed_formed rows w (carries (submits to now)) m e) e in
@@ -99,9 +96,9 @@ module _ (rows : ℕ) (w : World) (m : List ℕ) where
   passed_keeps (carries (sends to)) e =
       let d = done rows w (carries (sends to)) m e in
       rw (d.requests, d.answer, answer_sends rows w m to, change_sends rows w m to)
-      (go (message_of m) ((passed_exactly rows w (carries (sends to)) m).0 e WRONG_CLASS))
+      (go (message_of m) ((passed_exactly rows w (carries (sends to)) m).0 e WrongClass))
     where
-      go : (p : Parsed) → on_message p false (λ x. is_request x.class) ≡ false
+      go : (p : Option Message) → on_message p false (λ x. is_request x.class) ≡ false
           → cond (on_message p false (λ x. is_request x.class)) 1 0 + length w.requests ≡ 0 + length w.requests
       go p f = rw f
   passed_keeps (carries (receives from clock)) e =
@@ -122,7 +119,7 @@ module _ (rows : ℕ) (w : World) (m : List ℕ) where
   passed_keeps (meets a x) e = rw ((done rows w (meets a x) m e).requests, change_meets rows w m a x)
   passed_keeps (counts f) e = rw ((done rows w (counts f) m e).requests, change_counts rows w m f)
 
-  refused_keeps : (n : ℕ) (k : Kind) → Keeps (seen k m (answer.Refused (suc n))) w.requests w.requests
+  refused_keeps : (q : Refusal) (k : Kind) → Keeps (seen k m (answer.Refused q)) w.requests w.requests
   refused_keeps n k =
       let z = refused_tallied n m k in
       rw (
@@ -135,9 +132,9 @@ module _ (rows : ℕ) (w : World) (m : List ℕ) where
   keeps_call : (k : Kind) → Keeps (seen k m (says_of rows w k m).answer) w.requests (says_of rows w k m).world.requests
   keeps_call k = go (refusal_of rows w k m) refl
     where
-      go : (n : ℕ) → refusal_of rows w k m ≡ n → Keeps (seen k m (says_of rows w k m).answer) w.requests (says_of rows w k m).world.requests
-      go zero e = passed_keeps k e
-      go (suc n) e = rw (refused_same rows w k m n e) (refused_keeps n k)
+      go : (o : Option Refusal) → refusal_of rows w k m ≡ o → Keeps (seen k m (says_of rows w k m).answer) w.requests (says_of rows w k m).world.requests
+      go None e = passed_keeps k e
+      go (Some q) e = rw (refused_same rows w k m q e) (refused_keeps q k)
 
 -- ---- a run
 
@@ -168,11 +165,11 @@ module _ (rows : ℕ) (s : Start) (ts : List Turn) (on : s.stats ≡ true) (kept
       → (said rows (run rows (begins s) ts) (with call.OutstandingRequests m)).answer ≡ answer.Outstanding (length (run rows (begins s) ts).requests)
   outstanding_answered m fit =
       let w = run rows (begins s) ts in
-      let o : outstanding_of w.stats ≡ Count (length w.requests) =
+      let o : outstanding_of w.stats ≡ Some (length w.requests) =
       sym (not_below_zero w.stats (length w.requests) (omega (arith, conserved))) in
       let a = run_agent rows ts (begins s) in
-      let passes : refusal_of rows w (counts unsettled) m ≡ 0 =
+      let passes : refusal_of rows w (counts unsettled) m ≡ None =
       past_state_lem rows w (counts unsettled) m ((state_exactly rows w).1 (run_formed rows ts (begins s) (fit_formed rows s fit)))
       ∙ past_counts rows w m unsettled ∙ rw (a.stats ∙ on, o) in
       (done rows w (counts unsettled) m passes).answer ∙ answer_counts rows w m unsettled
-      ∙ ap (λ (n : Outstanding). answer.Outstanding (outstanding_count n)) o
+      ∙ ap (λ (n : Option ℕ). answer.Outstanding (outstanding_count n)) o

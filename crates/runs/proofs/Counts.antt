@@ -3,41 +3,37 @@
 --     counters_since   from any world with the record zeroed
 --     history_answers  the answers of a run's history are the run's
 --     tallied          one call that isn't refused: its event adds to each counter what the call and its answer say
-use Prim.Native.Nat.{ℕ, zero, suc, ◌+◌}
+use Rattle.model.specs.declared.Refusal.{Refusal}
+use Rattle.model.specs.declared.Refusal.TheVariants.{BadMessage, WrongClass}
+use Rattle.std.specs.Prelude.{None, Some, Option}
+use Rattle.request.specs.declared.StunRequestState.{StunRequestState}
+use Prim.Native.Nat.{ℕ, ◌+◌}
 use mathlib.Core.Path.{◌≡◌, refl, sym, ap, ◌∙◌}
 use mathlib.Core.Bool.{Bool, true, false, cond, ◌||◌}
 use mathlib.Core.List.{List, [], ◌∷◌, map}
 use native.Mathlib.Omega.{arith}
 use native.Mathlib.Nat.{add-zero, zero-add, add_assoc}
-use mathlib.Core.Option.{Option}
 use lib.ListN.{length}
-use borrow.Author.Tests.{ne_eqb}
 use Rattle.address.specs.declared.Address.{Address}
 use Rattle.message.specs.Head.{key}
 use Rattle.message.specs.Attributes.{message_of}
 use Rattle.message.specs.declared.MessageClass.{MessageClass}
 use Rattle.message.specs.declared.MessageClass.TheVariants.{Request, Indication, Success, Error}
 use Rattle.message.specs.declared.Message.{Message}
-use Rattle.message.specs.declared.Parsed.{Parsed}
-use Rattle.message.specs.declared.Parsed.TheVariants.{Good, Bad}
 use Rattle.stats.specs.Count.{Move, same, fresh, up, moved, Moves, moves_of, counted, zeroed}
-use Rattle.stats.specs.declared.Rtt.{Rtt}
-use Rattle.stats.specs.declared.Rtt.TheVariants.{Absent}
 use Rattle.stats.specs.declared.StunAgentStats.{StunAgentStats}
 use Rattle.stats.specs.declared.Event.{Event}
 use Rattle.stats.specs.declared.Event.TheVariants as event
 use Rattle.stats.proofs.Fields.{counters_moved, nothing, reset}
 use Rattle.requests.specs.Search.{lookup}
 use Rattle.requests.specs.Scan.{walk, poll_all}
-use Rattle.requests.specs.declared.Transmitted.{Transmitted}
-use Rattle.requests.specs.declared.Transmitted.TheVariants.{Sends, Quiet}
 use Rattle.requests.specs.declared.Polled.{Polled}
 use Rattle.requests.specs.declared.Polled.TheVariants.{TimedOut, Cancelled, WaitUntil}
 use Rattle.requests.proofs.Lists.{apart, neither}
 use Rattle.model.specs.World.{World}
 use Rattle.model.specs.Calls.{submits, sends, receives, transmits, reports, numbers, mean, unsettled, anew, Kind, carries, scans, names, meets, counts}
 use Rattle.model.specs.Accepts.{on_message, accepts}
-use Rattle.model.specs.Refusals.{BAD_MESSAGE, WRONG_CLASS, is_request, refusal_of}
+use Rattle.model.specs.Refusals.{is_request, refusal_of}
 use Rattle.model.specs.Effects.{transmit_answer, poll_answer, yes_or_no, sent_as, received_as, rtt_at, transmit_event, poll_event, event_by}
 use Rattle.model.specs.Says.{Said, says_of}
 use Rattle.model.specs.Fresh.{fresh_event}
@@ -107,7 +103,7 @@ amounts_in e = record {
 
 -- ---- one call that isn't refused, by its class
 
-module _ (to : Address) (m : List ℕ) (x : Message) (reads : message_of m ≡ Good x) where
+module _ (to : Address) (m : List ℕ) (x : Message) (reads : message_of m ≡ Some x) where
   sent_tallied : is_request x.class ≡ false → amounts_of (sent_as (length m) x.class) ≡ amounts_in (seen (carries (sends to)) m answer.Ok)
   sent_tallied other = go x.class refl other
     where
@@ -119,7 +115,7 @@ module _ (to : Address) (m : List ℕ) (x : Message) (reads : message_of m ≡ G
       go Error e n = rw (reads, e, add-zero)
 
 module _ (from : Address) (clock : Option ℕ) (m : List ℕ) where
-  received_tallied : (rtt : Rtt) (x : Message) → message_of m ≡ Good x
+  received_tallied : (rtt : Option ℕ) (x : Message) → message_of m ≡ Some x
       → amounts_of (received_as (length m) rtt x.class) ≡ amounts_in (seen (carries (receives from clock)) m answer.Yes)
   received_tallied rtt x reads = go x.class refl
     where
@@ -131,20 +127,20 @@ module _ (from : Address) (clock : Option ℕ) (m : List ℕ) where
       go Error e = rw (reads, e)
 
   -- a message that is answered with yes where it is accepted
-  heard_tallied : (rtt : Message → Rtt) (takes : Message → Bool) (p : Parsed) → message_of m ≡ p
+  heard_tallied : (rtt : Message → Option ℕ) (takes : Message → Bool) (p : Option Message) → message_of m ≡ p
       → amounts_of (on_message p event.Nothing (λ x. cond (takes x) (received_as (length m) (rtt x) x.class) event.Nothing))
       ≡ amounts_in (seen (carries (receives from clock)) m (on_message p answer.No (λ x. yes_or_no (takes x))))
-  heard_tallied rtt takes Bad e = refl
-  heard_tallied rtt takes (Good x) e = go (takes x)
+  heard_tallied rtt takes None e = refl
+  heard_tallied rtt takes (Some x) e = go (takes x)
     where
       go : (b : Bool)
           → amounts_of (cond b (received_as (length m) (rtt x) x.class) event.Nothing) ≡ amounts_in (seen (carries (receives from clock)) m (yes_or_no b))
       go true = received_tallied (rtt x) x e
       go false = refl
 
-transmit_tallied : (now : ℕ) (m : List ℕ) (o : Transmitted) → amounts_of (transmit_event o) ≡ amounts_in (seen (scans transmits now) m (transmit_answer o))
-transmit_tallied now m (Sends r) = rw (zero-add r.len)
-transmit_tallied now m Quiet = refl
+transmit_tallied : (now : ℕ) (m : List ℕ) (o : Option StunRequestState) → amounts_of (transmit_event o) ≡ amounts_in (seen (scans transmits now) m (transmit_answer o))
+transmit_tallied now m (Some r) = rw (zero-add r.len)
+transmit_tallied now m None = refl
 
 poll_tallied : (now : ℕ) (m : List ℕ) (o : Polled) → amounts_of (poll_event o) ≡ amounts_in (seen (scans reports now) m (poll_answer o))
 poll_tallied now m (TimedOut i id) = refl
@@ -152,19 +148,19 @@ poll_tallied now m (Cancelled i id) = refl
 poll_tallied now m (WaitUntil clock) = refl
 
 module _ (rows : ℕ) (w : World) (m : List ℕ) where
-  tallied : (k : Kind) → resets k ≡ false → refusal_of rows w k m ≡ 0
+  tallied : (k : Kind) → resets k ≡ false → refusal_of rows w k m ≡ None
       → amounts_of (event_by w k m) ≡ amounts_in (seen k m (says_of rows w k m).answer)
   tallied (carries (submits to now)) kept e =
       let a = request_accepted rows w to now m (passed_formed rows w (carries (submits to now)) m e) e in
       rw (a.answers, a.reads, a.class_is, add-zero)
   tallied (carries (sends to)) kept e =
       let passes = (passed_exactly rows w (carries (sends to)) m).0 e in
-      rw ((done rows w (carries (sends to)) m e).answer, answer_sends rows w m to) (go (message_of m) refl (passes BAD_MESSAGE) (passes WRONG_CLASS))
+      rw ((done rows w (carries (sends to)) m e).answer, answer_sends rows w m to) (go (message_of m) refl (passes BadMessage) (passes WrongClass))
     where
-      go : (p : Parsed) → message_of m ≡ p → on_message p true (λ x. false) ≡ false → on_message p false (λ x. is_request x.class) ≡ false
+      go : (p : Option Message) → message_of m ≡ p → on_message p true (λ x. false) ≡ false → on_message p false (λ x. is_request x.class) ≡ false
           → amounts_of (on_message p event.Nothing (λ x. sent_as (length m) x.class)) ≡ amounts_in (seen (carries (sends to)) m answer.Ok)
-      go Bad e b c = apart b
-      go (Good x) e b c = sent_tallied to m x e c
+      go None e b c = apart b
+      go (Some x) e b c = sent_tallied to m x e c
   tallied (carries (receives from clock)) kept e =
       rw ((done rows w (carries (receives from clock)) m e).answer, answer_receives rows w m from clock)
       (heard_tallied from clock m (λ x. rtt_at clock (lookup (key x.transaction_id) w.requests)) (accepts w.requests from) (message_of m) refl)
@@ -183,15 +179,15 @@ module _ (rows : ℕ) (w : World) (m : List ℕ) where
 
 -- ---- one call, refused or not
 
-pub refused_tallied : (n : ℕ) (m : List ℕ) (k : Kind) → amounts_of event.Nothing ≡ amounts_in (seen k m (answer.Refused (suc n)))
-refused_tallied n m (carries (submits to now)) = refl
-refused_tallied n m (carries (sends to)) = rw (ne_eqb (suc n) 0 (λ z. omega arith))
-refused_tallied n m (carries (receives from clock)) = refl
-refused_tallied n m (scans transmits now) = refl
-refused_tallied n m (scans reports now) = refl
-refused_tallied n m (names id wish) = refl
-refused_tallied n m (meets a x) = refl
-refused_tallied n m (counts f) = refl
+pub refused_tallied : (q : Refusal) (m : List ℕ) (k : Kind) → amounts_of event.Nothing ≡ amounts_in (seen k m (answer.Refused q))
+refused_tallied q m (carries (submits to now)) = refl
+refused_tallied q m (carries (sends to)) = refl
+refused_tallied q m (carries (receives from clock)) = refl
+refused_tallied q m (scans transmits now) = refl
+refused_tallied q m (scans reports now) = refl
+refused_tallied q m (names id wish) = refl
+refused_tallied q m (meets a x) = refl
+refused_tallied q m (counts f) = refl
 
 abbrev is_reset : Event → Bool
 is_reset event.Nothing = false
@@ -206,28 +202,28 @@ is_reset event.TimedOut = false
 is_reset event.Cancelled = false
 is_reset event.Reset = true
 
-class_kept : (n : ℕ) (rtt : Rtt) (c : MessageClass) → (is_reset (sent_as n c) ≡ false) × (is_reset (received_as n rtt c) ≡ false)
+class_kept : (n : ℕ) (rtt : Option ℕ) (c : MessageClass) → (is_reset (sent_as n c) ≡ false) × (is_reset (received_as n rtt c) ≡ false)
 class_kept n rtt Request = (refl, refl)
 class_kept n rtt Indication = (refl, refl)
 class_kept n rtt Success = (refl, refl)
 class_kept n rtt Error = (refl, refl)
 
-sent_kept : (n : ℕ) (p : Parsed) → is_reset (on_message p event.Nothing (λ x. sent_as n x.class)) ≡ false
-sent_kept n Bad = refl
-sent_kept n (Good x) = (class_kept n Absent x.class).0
+sent_kept : (n : ℕ) (p : Option Message) → is_reset (on_message p event.Nothing (λ x. sent_as n x.class)) ≡ false
+sent_kept n None = refl
+sent_kept n (Some x) = (class_kept n None x.class).0
 
-heard_kept : (n : ℕ) (rtt : Message → Rtt) (takes : Message → Bool) (p : Parsed)
+heard_kept : (n : ℕ) (rtt : Message → Option ℕ) (takes : Message → Bool) (p : Option Message)
     → is_reset (on_message p event.Nothing (λ x. cond (takes x) (received_as n (rtt x) x.class) event.Nothing)) ≡ false
-heard_kept n rtt takes Bad = refl
-heard_kept n rtt takes (Good x) = go (takes x)
+heard_kept n rtt takes None = refl
+heard_kept n rtt takes (Some x) = go (takes x)
   where
     go : (b : Bool) → is_reset (cond b (received_as n (rtt x) x.class) event.Nothing) ≡ false
     go true = (class_kept n (rtt x) x.class).1
     go false = refl
 
-transmit_kept : (o : Transmitted) → is_reset (transmit_event o) ≡ false
-transmit_kept (Sends r) = refl
-transmit_kept Quiet = refl
+transmit_kept : (o : Option StunRequestState) → is_reset (transmit_event o) ≡ false
+transmit_kept (Some r) = refl
+transmit_kept None = refl
 
 poll_kept : (o : Polled) → is_reset (poll_event o) ≡ false
 poll_kept (TimedOut i id) = refl
@@ -258,18 +254,18 @@ pub record Counted (rows : ℕ) (w : World) (k : Kind) (m : List ℕ) : Type 0 w
 pub counts_call : (rows : ℕ) (w : World) (k : Kind) (m : List ℕ) → w.agent.stats ≡ true → resets k ≡ false → Counted rows w k m
 counts_call rows w k m on kept = go (refusal_of rows w k m) refl
   where
-    go : (n : ℕ) → refusal_of rows w k m ≡ n → Counted rows w k m
-    go zero e = record {
+    go : (o : Option Refusal) → refusal_of rows w k m ≡ o → Counted rows w k m
+    go None e = record {
       event = event_by w k m;
       kept = no_reset w m k kept;
       stats = counts_event rows w k m e ∙ ap (λ (v : Event). counted v w.stats) (event_on rows w k m on);
       adds = tallied rows w m k kept e;
     }
-    go (suc n) e = record {
+    go (Some q) e = record {
       event = event.Nothing;
       kept = refl;
-      stats = ap (λ (s : Said). s.world.stats) (refused_same rows w k m n e) ∙ nothing w.stats;
-      adds = rw (refused_same rows w k m n e) (refused_tallied n m k);
+      stats = ap (λ (s : Said). s.world.stats) (refused_same rows w k m q e) ∙ nothing w.stats;
+      adds = rw (refused_same rows w k m q e) (refused_tallied q m k);
     }
 
 -- ---- a counter over a run

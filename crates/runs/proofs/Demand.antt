@@ -6,11 +6,13 @@
 --     closed_form                   the sends and the timeout of one run
 --     each_run                      what demand 3 says of it
 --     more_clocks, steady_rising    more rounds are more clocks, and they rise
+use Rattle.requests.proofs.Lists.{none_some}
+use Rattle.model.specs.declared.Refusal.TheVariants.{State}
+use Rattle.std.specs.Prelude.{Option, None, Some}
 use Prim.Native.Nat.{ℕ, suc, ◌-◌, ◌≤◌}
-use mathlib.Core.Path.{◌≡◌, refl, ap, ◌∙◌}
+use mathlib.Core.Path.{◌≡◌, refl, ap, ◌∙◌, sym}
 use mathlib.Core.Bool.{Bool, true, false}
 use mathlib.Core.List.{List, [], ◌∷◌, ◌++◌}
-use mathlib.Core.Option.{Option, none, some}
 use lib.ListN.{length}
 use borrow.Author.Tests.{eq-eqb}
 use native.Mathlib.Omega.{arith}
@@ -24,7 +26,7 @@ use Rattle.request.proofs.Kept.{submission}
 use Rattle.requests.specs.Search.{lookup, request_of}
 use Rattle.model.specs.World.{World, StateFormed, state_formed}
 use Rattle.model.specs.Calls.{clock_of}
-use Rattle.model.specs.Refusals.{STATE, number_of, refusal_of}
+use Rattle.model.specs.Refusals.{refusal_of}
 use Rattle.model.specs.Says.{Said}
 use Rattle.model.specs.Runs.{Turn, run}
 use Rattle.model.proofs.Refused.{bad_state_first, refused_same}
@@ -56,8 +58,8 @@ steady_rising (plays now ∷ ss) m h = (h.0, steady_rising ss now h.2)
 steady_rising (calls t ∷ ss) m h = go (clock_of (kind_in t)) h (steady_rising ss)
   where
     go : (c : Option ℕ) → SteadyAt c m (λ u. Steady u ss) → ((u : ℕ) → Steady u ss → Rising u (rounds ss)) → Rising m (rounds ss)
-    go none h ih = ih m h
-    go (some t) h ih = rising_down m t (rounds ss) h.0 (ih t h.2)
+    go None h ih = ih m h
+    go (Some t) h ih = rising_down m t (rounds ss) h.0 (ih t h.2)
 
 -- the first steps of a run with steady clocks
 steady_front : (ss rest : List Step) (m : ℕ) → Steady m (ss ++ rest) → Steady m ss
@@ -65,8 +67,8 @@ steady_front [] rest m h = tt
 steady_front (s ∷ ss) rest m h = go (step_clock s) h (steady_front ss rest)
   where
     go : (c : Option ℕ) → SteadyAt c m (λ u. Steady u (ss ++ rest)) → ((u : ℕ) → Steady u (ss ++ rest) → Steady u ss) → SteadyAt c m (λ u. Steady u ss)
-    go none h ih = ih m h
-    go (some t) h ih = (h.0, h.1, ih t h.2)
+    go None h ih = ih m h
+    go (Some t) h ih = (h.0, h.1, ih t h.2)
 
 -- ---- a fresh agent
 
@@ -75,7 +77,7 @@ pub unformed_run : (rows : ℕ) (w : World) (ts : List Turn) → state_formed ro
 unformed_run rows w [] e = refl
 unformed_run rows w (t ∷ ts) e =
     let same : (said rows w t).world ≡ w =
-    ap (λ (z : Said). z.world) (refused_same rows w (kind_in t) t.bytes 0 (bad_state_first rows w (kind_in t) t.bytes e)) in
+    ap (λ (z : Said). z.world) (refused_same rows w (kind_in t) t.bytes State (bad_state_first rows w (kind_in t) t.bytes e)) in
     rw same (unformed_run rows w ts e)
 
 module _ (rows : ℕ) (s : Start) where
@@ -92,7 +94,7 @@ module _ (rows : ℕ) (s : Start) where
   fresh_never_bad fit d h = never_bad d 0 (fit_ok fit) h
 
   -- where a call isn't refused by 1, the agent began well formed
-  pub began_formed : (before : List Turn) (t : Turn) → (refusal_of rows (run rows (begins s) before) (kind_in t) t.bytes ≡ number_of STATE → ⊥)
+  pub began_formed : (before : List Turn) (t : Turn) → (refusal_of rows (run rows (begins s) before) (kind_in t) t.bytes ≡ Some State → ⊥)
       → StateFormed rows (begins s)
   began_formed before t n = go (state_formed rows (begins s)) refl
     where
@@ -112,13 +114,13 @@ pub record Entered (rows x : ℕ) (s : Start) (q : Submission) (before : List Tu
   pub request : StunRequestState
   pub formed : StateFormed rows (run rows (begins s) before)
   pub ok : Ok rows s.transport s.rto q.now (said rows (run rows (begins s) before) (submits q)).world
-  pub found : request_of (lookup x (said rows (run rows (begins s) before) (submits q)).world.requests) ≡ some request
+  pub found : request_of (lookup x (said rows (run rows (begins s) before) (submits q)).world.requests) ≡ Some request
   pub loud : Loud q.now request
 
 module _ (rows x : ℕ) (s : Start) (q : Submission) (pre post : List Step) (before later : List Turn)
     (life : Life rows x s q pre post before later) where
   began : StateFormed rows (begins s)
-  began = began_formed rows s before (submits q) (λ e. omega (arith, life.accepted))
+  began = began_formed rows s before (submits q) (λ e. none_some (sym life.accepted ∙ e))
 
   start : World
   start = run rows (begins s) before
@@ -159,7 +161,7 @@ module _ (rows x : ℕ) (s : Start) (q : Submission) (pre post : List Step) (bef
         rto_is = b.rto_is ∙ reached.ok.rto;
       })
 
-  found : request_of (lookup x then_is.requests) ≡ some joined.request
+  found : request_of (lookup x then_is.requests) ≡ Some joined.request
   unfolding then_is
   found = ap request_of (rw named at joined.stands)
 

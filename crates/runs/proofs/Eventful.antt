@@ -3,6 +3,7 @@
 --     accounted, balance           the 14 numbers, and the conservation law
 --     fate_of, delivery            its request 2, from its acceptance on
 --     third_sample                 its request 3, answered at clock 7
+use Rattle.std.specs.Prelude.{Some}
 use mathlib.Core.Path.{◌≡◌, refl}
 use mathlib.Core.List.{List, ◌∷◌, ◌++◌}
 use native.Mathlib.Omega.{arith}
@@ -10,7 +11,6 @@ use lib.ListN.{take, drop}
 use Rattle.store.specs.Rows as store
 use Rattle.model.specs.Parts as parts
 use Rattle.model.specs.World.{World}
-use Rattle.stats.specs.declared.Rtt.TheVariants.{Nanos}
 use Rattle.model.specs.Runs.{Turn, with, run}
 use Rattle.model.specs.Worked.{peer, success}
 use Rattle.model.specs.declared.Call.TheVariants as call
@@ -76,7 +76,7 @@ abbrev answered : World
 answered = run 3 (said 3 (run 3 (begins agent) (take 2 calls)) (submits third)).world between
 
 pub third_sample : sample_of (left_by agent.transport agent.rto (history 3 (begins agent) (take 2 calls ++ (submits third ∷ between))))
-    (exchange 3 answered (with (call.HandleStunMessageWithTime (peer 7) 7) (success 3))) ≡ Nanos 7
+    (exchange 3 answered (with (call.HandleStunMessageWithTime (peer 7) 7) (success 3))) ≡ Some 7
 unfolding opened counts.history
 third_sample =
     sample_is 3 3 agent (take 2 calls) third between refl

@@ -2,14 +2,13 @@
 --     values     the worked values
 --     lived      a run that the function plays meets the hypotheses, where its calls leave the request alone
 --     pair       two such runs
+use Rattle.std.specs.Prelude.{Option, None, Some}
 use Prim.Native.Nat.{ℕ}
 use mathlib.Core.Path.{◌≡◌, refl, sym, ap}
 use mathlib.Core.List.{List, [], ◌∷◌}
 use native.Mathlib.Omega.{arith}
 use Rattle.message.specs.Head as head
 use Rattle.message.specs.Attributes as attributes
-use Rattle.message.specs.declared.Parsed.{Parsed}
-use Rattle.message.specs.declared.Parsed.TheVariants.{Good, Bad}
 use Rattle.waits.specs.Waits as waits
 use Rattle.stats.specs.Count as count
 use Rattle.stats.specs.Query as figures
@@ -63,8 +62,8 @@ abbrev later_of : ℕ → Start → Submission → List Step → List Turn
 later_of rows s q post = play.played rows (said rows (begins s) (submits q)).world post
 
 lived : (rows x : ℕ) (s : Start) (q : Submission) (post : List Step) → Fit rows s → Steady 0 (calls (submits q) ∷ post) → NoScan post
-    → refusals.refusal_of rows (begins s) (kind_in (submits q)) q.bytes ≡ 0
-    → ((y : Message) → attributes.message_of q.bytes ≡ Good y → head.key y.transaction_id ≡ x)
+    → refusals.refusal_of rows (begins s) (kind_in (submits q)) q.bytes ≡ None
+    → ((y : Message) → attributes.message_of q.bytes ≡ Some y → head.key y.transaction_id ≡ x)
     → LeftAlone rows x (said rows (begins s) (submits q)).world (later_of rows s q post)
     → Life rows x s q [] post [] (later_of rows s q post)
 lived rows x s q post fit h n a y l = record {
@@ -79,14 +78,14 @@ lived rows x s q post fit h n a y l = record {
 }
 
 -- The identifier of a message that was read.
-abbrev id_in : Parsed → ℕ
-id_in (Good y) = head.key y.transaction_id
-id_in Bad = 0
+abbrev id_in : Option Message → ℕ
+id_in (Some y) = head.key y.transaction_id
+id_in None = 0
 
 fit : Fit 1 three
 fit = record { limits = record { count = omega arith; initial = omega arith; most = omega arith; last = omega arith }; room = omega arith }
 
-named : (y : Message) → attributes.message_of first.bytes ≡ Good y → head.key y.transaction_id ≡ 1
+named : (y : Message) → attributes.message_of first.bytes ≡ Some y → head.key y.transaction_id ≡ 1
 unfolding opened
 named y e = sym (ap id_in e)
 

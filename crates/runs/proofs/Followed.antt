@@ -2,21 +2,19 @@
 --     Traced, traced            one call, refused or not
 --     handed                    only `send_request` and `poll_transmit` hand it out
 --     follows, follows_fresh    a run, from any world and from a fresh agent
-use Prim.Native.Nat.{ℕ, zero, suc, ◌+◌}
+use Rattle.model.specs.declared.Refusal.{Refusal}
+use Rattle.std.specs.Prelude.{None, Some, Option}
+use Prim.Native.Nat.{ℕ, ◌+◌}
 use mathlib.Core.Path.{◌≡◌, refl, sym, ap, ◌∙◌}
 use mathlib.Core.Bool.{Bool, true, false, cond, ◌&&◌, and-eq-true_iff, and-false}
 use mathlib.Core.List.{List, [], ◌∷◌}
-use mathlib.Core.Option.{Option, none, some}
-use native.Mathlib.Omega.{arith}
 use lib.Dec.{eqb, leb}
-use borrow.Author.Tests.{eqb-true, eqb-false, eq-eqb, ne_eqb}
+use borrow.Author.Tests.{eqb-true, eqb-false, ne_eqb}
 use Rattle.address.specs.declared.Address.{Address}
 use Rattle.message.specs.Head.{key}
 use Rattle.message.specs.Attributes.{message_of}
 use Rattle.message.specs.declared.TransactionId.{TransactionId}
 use Rattle.message.specs.declared.Message.{Message}
-use Rattle.message.specs.declared.Parsed.{Parsed}
-use Rattle.message.specs.declared.Parsed.TheVariants.{Good, Bad}
 use Rattle.waits.specs.declared.RequestRto.{RequestRto}
 use Rattle.waits.specs.declared.Transport.{Transport}
 use Rattle.request.specs.Request.{silenced, cancelled, configured, transmit_of}
@@ -28,10 +26,6 @@ use Rattle.request.proofs.Kept.{same_silenced, same_cancelled, same_configured}
 use Rattle.requests.specs.Search.{key_of, keys_of, lookup, place_of, request_of}
 use Rattle.requests.specs.Formed.{Ascending}
 use Rattle.requests.specs.Scan.{hour, walk, poll_all}
-use Rattle.requests.specs.declared.Found.{Found}
-use Rattle.requests.specs.declared.Found.TheVariants.{At, Nothing}
-use Rattle.requests.specs.declared.Transmitted.{Transmitted}
-use Rattle.requests.specs.declared.Transmitted.TheVariants.{Sends, Quiet}
 use Rattle.requests.specs.declared.Polled.{Polled}
 use Rattle.requests.specs.declared.Polled.TheVariants.{TimedOut, Cancelled, WaitUntil}
 use Rattle.requests.proofs.Lists.{apart, none_some}
@@ -43,7 +37,7 @@ use Rattle.model.specs.Calls.{Meeting, ask, validate, Figure, numbers, mean, uns
 use Rattle.model.specs.Accepts.{on_message, is_response, accepts}
 use Rattle.model.specs.Refusals.{refusal_of}
 use Rattle.model.specs.Effects.{on_found, keeps, removes, changed, reported, wished, yes_or_no, transmit_answer, poll_answer, wish_answer, meeting_answer, figure_answer}
-use Rattle.model.specs.Says.{Said, number_in, says_of}
+use Rattle.model.specs.Says.{Said, says_of}
 use Rattle.model.specs.Runs.{Turn, run}
 use Rattle.model.specs.declared.Answer.{Answer}
 use Rattle.model.specs.declared.Answer.TheVariants as answer
@@ -76,20 +70,20 @@ pub record Traced (rows x : ℕ) (w : World) (k : Kind) (m : List ℕ) : Type 0 
   pub after : request_of (lookup x (says_of rows w k m).world.requests)
       ≡ followed_by w.agent.transport w.agent.rto x k m (says_of rows w k m).answer (request_of (lookup x w.requests))
   -- where x isn't outstanding, nothing of it is sent but by its acceptance, and it doesn't end
-  pub unsent : request_of (lookup x w.requests) ≡ none → hands_out_it x (says_of rows w k m).answer ≡ submits_by x k (says_of rows w k m).answer
-  pub unended : request_of (lookup x w.requests) ≡ none → end_by x k m (says_of rows w k m).answer ≡ none
+  pub unsent : request_of (lookup x w.requests) ≡ None → hands_out_it x (says_of rows w k m).answer ≡ submits_by x k (says_of rows w k m).answer
+  pub unended : request_of (lookup x w.requests) ≡ None → end_by x k m (says_of rows w k m).answer ≡ None
   -- accepted, it is outstanding; where it was, it isn't accepted
   pub begun : submits_by x k (says_of rows w k m).answer ≡ true
-      → (q : StunRequestState) × (request_of (lookup x (says_of rows w k m).world.requests) ≡ some q)
-  pub once : (r : StunRequestState) → request_of (lookup x w.requests) ≡ some r → submits_by x k (says_of rows w k m).answer ≡ false
+      → (q : StunRequestState) × (request_of (lookup x (says_of rows w k m).world.requests) ≡ Some q)
+  pub once : (r : StunRequestState) → request_of (lookup x w.requests) ≡ Some r → submits_by x k (says_of rows w k m).answer ≡ false
 
-none_not : {C : Type 0} {r : StunRequestState} {f : Found} → f ≡ Nothing → request_of f ≡ some r → C
+none_not : {C : Type 0} {r : StunRequestState} {f : Option (ℕ × StunRequestState)} → f ≡ None → request_of f ≡ Some r → C
 none_not e s = none_some (sym (ap request_of e) ∙ s)
 
 -- an accepted request stands under its identifier
 pub stands_at : (rows x : ℕ) (w : World) (to : Address) (now : ℕ) (m : List ℕ) (s : Said) (a : RequestAccepted rows w to now m s)
     → key a.message.transaction_id ≡ x
-    → lookup x s.world.requests ≡ At (place_of (key a.message.transaction_id) w.requests) a.request
+    → lookup x s.world.requests ≡ Some ((place_of (key a.message.transaction_id) w.requests), a.request)
 stands_at rows x w to now m s a z = ap (λ (n : ℕ). lookup n s.world.requests) (sym z) ∙ a.stands
 
 choice_unsent : (x : ℕ) (b : Bool) → hands_out_it x (yes_or_no b) ≡ false
@@ -99,21 +93,21 @@ choice_unsent x false = refl
 module _ (rows x : ℕ) (w : World) (m : List ℕ) where
   -- ---- only `send_request` and `poll_transmit` hand x out
 
-  heard_unsent : (p : Parsed) (takes : Message → Bool) → hands_out_it x (on_message p answer.No (λ y. yes_or_no (takes y))) ≡ false
-  heard_unsent Bad takes = refl
-  heard_unsent (Good y) takes = choice_unsent x (takes y)
+  heard_unsent : (p : Option Message) (takes : Message → Bool) → hands_out_it x (on_message p answer.No (λ y. yes_or_no (takes y))) ≡ false
+  heard_unsent None takes = refl
+  heard_unsent (Some y) takes = choice_unsent x (takes y)
 
   poll_unsent : (o : Polled) → hands_out_it x (poll_answer o) ≡ false
   poll_unsent (TimedOut i id) = refl
   poll_unsent (Cancelled i id) = refl
   poll_unsent (WaitUntil clock) = refl
 
-  wish_unsent : (wish : Wish) (f : Found) → hands_out_it x (on_found f answer.None (λ i r. wish_answer wish r)) ≡ false
-  wish_unsent wish Nothing = refl
-  wish_unsent silence (At i r) = refl
-  wish_unsent cancel (At i r) = refl
-  wish_unsent (configure rto) (At i r) = refl
-  wish_unsent query (At i r) = refl
+  wish_unsent : (wish : Wish) (f : Option (ℕ × StunRequestState)) → hands_out_it x (on_found f answer.None (λ i r. wish_answer wish r)) ≡ false
+  wish_unsent wish None = refl
+  wish_unsent silence (Some (i, r)) = refl
+  wish_unsent cancel (Some (i, r)) = refl
+  wish_unsent (configure rto) (Some (i, r)) = refl
+  wish_unsent query (Some (i, r)) = refl
 
   figure_unsent : (f : Figure) → hands_out_it x (figure_answer w f) ≡ false
   figure_unsent numbers = refl
@@ -125,7 +119,7 @@ module _ (rows x : ℕ) (w : World) (m : List ℕ) where
   meeting_unsent a ask = choice_unsent x (known w a)
   meeting_unsent a validate = refl
 
-  handed_passed : (k : Kind) → refusal_of rows w k m ≡ 0 → hands_out_it x (says_of rows w k m).answer ≡ handed_by x k (says_of rows w k m).answer
+  handed_passed : (k : Kind) → refusal_of rows w k m ≡ None → hands_out_it x (says_of rows w k m).answer ≡ handed_by x k (says_of rows w k m).answer
   handed_passed (carries (submits to now)) e = refl
   handed_passed (carries (sends to)) e = rw ((done rows w (carries (sends to)) m e).answer, answer_sends rows w m to)
   handed_passed (carries (receives from clock)) e =
@@ -141,7 +135,7 @@ module _ (rows x : ℕ) (w : World) (m : List ℕ) where
 
   -- ---- `send_request`
 
-  traced_submits : (to : Address) (now : ℕ) → StateFormed rows w → refusal_of rows w (carries (submits to now)) m ≡ 0
+  traced_submits : (to : Address) (now : ℕ) → StateFormed rows w → refusal_of rows w (carries (submits to now)) m ≡ None
       → Traced rows x w (carries (submits to now)) m
   traced_submits to now formed e =
       let a = request_accepted rows w to now m formed e in
@@ -151,7 +145,7 @@ module _ (rows x : ℕ) (w : World) (m : List ℕ) where
           → eqb (key a.message.transaction_id) x ≡ b → Traced rows x w (carries (submits to now)) m
       go a true b =
           let z : key a.message.transaction_id ≡ x = eqb-true (key a.message.transaction_id) x b in
-          let gone : lookup x w.requests ≡ Nothing = rw z at a.new in
+          let gone : lookup x w.requests ≡ None = rw z at a.new in
           let here = ap request_of (stands_at rows x w to now m (says_of rows w (carries (submits to now)) m) a z) in
           record {
             after = here ∙ rw (a.answers, a.reads, b, a.request_is);
@@ -173,15 +167,15 @@ module _ (rows x : ℕ) (w : World) (m : List ℕ) where
 
   -- ---- a received message
 
-  module _ (from : Address) (clock : Option ℕ) (formed : StateFormed rows w) (e : refusal_of rows w (carries (receives from clock)) m ≡ 0) where
+  module _ (from : Address) (clock : Option ℕ) (formed : StateFormed rows w) (e : refusal_of rows w (carries (receives from clock)) m ≡ None) where
     answer_is : (says_of rows w (carries (receives from clock)) m).answer ≡ on_message (message_of m) answer.No (λ y. yes_or_no (accepts w.requests from y))
     answer_is = (done rows w (carries (receives from clock)) m e).answer ∙ answer_receives rows w m from clock
 
     -- x is answered exactly where the call is said to handle it
-    responds_is : (p : Parsed) (takes test : Message → Bool)
+    responds_is : (p : Option Message) (takes test : Message → Bool)
         → (is_yes (on_message p answer.No (λ y. yes_or_no (takes y))) && on_message p false test) ≡ on_message p false (λ y. takes y && test y)
-    responds_is Bad takes test = refl
-    responds_is (Good y) takes test = go (takes y)
+    responds_is None takes test = refl
+    responds_is (Some y) takes test = go (takes y)
       where
         go : (b : Bool) → (is_yes (yes_or_no b) && test y) ≡ (b && test y)
         go true = refl
@@ -191,11 +185,11 @@ module _ (rows x : ℕ) (w : World) (m : List ℕ) where
     handled_is = rw answer_is (responds_is (message_of m) (accepts w.requests from) (λ y. is_response y.class && eqb (key y.transaction_id) x))
 
     -- it was outstanding, and is no more
-    taken_out : (p : Parsed) → message_of m ≡ p → on_message p false (answers_to x w.requests from) ≡ true
-        → (request_of (lookup x w.requests) ≡ none → ⊥)
-        × (request_of (lookup x (says_of rows w (carries (receives from clock)) m).world.requests) ≡ none)
-    taken_out Bad r h = apart (sym h)
-    taken_out (Good y) r h =
+    taken_out : (p : Option Message) → message_of m ≡ p → on_message p false (answers_to x w.requests from) ≡ true
+        → (request_of (lookup x w.requests) ≡ None → ⊥)
+        × (request_of (lookup x (says_of rows w (carries (receives from clock)) m).world.requests) ≡ None)
+    taken_out None r h = apart (sym h)
+    taken_out (Some y) r h =
         let a = (and-eq-true_iff _ _).0 h in
         let b = (and-eq-true_iff _ _).0 a.1 in
         let z : key y.transaction_id ≡ x = eqb-true (key y.transaction_id) x b.1 in
@@ -231,24 +225,24 @@ module _ (rows x : ℕ) (w : World) (m : List ℕ) where
 
   -- ---- `poll_transmit`
 
-  scan_mapped : (t : Transport) (now : ℕ) (o : Transmitted) (r : StunRequestState) → key_of r ≡ x
-      → some (scanned t now o r) ≡ cond (reaches x (transmit_answer o)) (some (record_after r (transmit_of t now r))) (some r)
-  scan_mapped t now (Sends p) r z = rw z (go (leb x (key_of p)))
+  scan_mapped : (t : Transport) (now : ℕ) (o : Option StunRequestState) (r : StunRequestState) → key_of r ≡ x
+      → Some (scanned t now o r) ≡ cond (reaches x (transmit_answer o)) (Some (record_after r (transmit_of t now r))) (Some r)
+  scan_mapped t now (Some p) r z = rw z (go (leb x (key_of p)))
     where
-      go : (b : Bool) → some (cond b (record_after r (transmit_of t now r)) r) ≡ cond b (some (record_after r (transmit_of t now r))) (some r)
+      go : (b : Bool) → Some (cond b (record_after r (transmit_of t now r)) r) ≡ cond b (Some (record_after r (transmit_of t now r))) (Some r)
       go true = refl
       go false = refl
-  scan_mapped t now Quiet r z = refl
+  scan_mapped t now None r z = refl
 
-  none_mapped : (b : Bool) (f : StunRequestState → StunRequestState) → none ≡ cond b (mapped none f) none
+  none_mapped : (b : Bool) (f : StunRequestState → StunRequestState) → None ≡ cond b (mapped None f) None
   none_mapped true f = refl
   none_mapped false f = refl
 
-  other_unsent : (o : Transmitted) → OtherKey x o → hands_out_it x (transmit_answer o) ≡ false
-  other_unsent (Sends p) n = ne_eqb (key_of p) x n
-  other_unsent Quiet n = refl
+  other_unsent : (o : Option StunRequestState) → OtherKey x o → hands_out_it x (transmit_answer o) ≡ false
+  other_unsent (Some p) n = ne_eqb (key_of p) x n
+  other_unsent None n = refl
 
-  traced_transmits : (now : ℕ) → StateFormed rows w → refusal_of rows w (scans transmits now) m ≡ 0 → Traced rows x w (scans transmits now) m
+  traced_transmits : (now : ℕ) → StateFormed rows w → refusal_of rows w (scans transmits now) m ≡ None → Traced rows x w (scans transmits now) m
   traced_transmits now formed e = record {
     after = rw (s.answers, s.requests) (go (lookup x w.requests) refl);
     unsent = λ n.
@@ -265,14 +259,14 @@ module _ (rows x : ℕ) (w : World) (m : List ℕ) where
       s : ScanSaid rows w transmits now m
       s = scan_said rows w transmits now m e
 
-      go : (f : Found) → lookup x w.requests ≡ f
+      go : (f : Option (ℕ × StunRequestState)) → lookup x w.requests ≡ f
           → request_of (lookup x (walk t now w.requests).after)
           ≡ cond (reaches x (transmit_answer (walk t now w.requests).out)) (mapped (request_of f) (λ r. record_after r (transmit_of t now r)))
           (request_of f)
-      go (At i r) f =
+      go (Some (i, r)) f =
           ap request_of (scanned_found t now w.requests x i r formed.requests.order f)
           ∙ scan_mapped t now (walk t now w.requests).out r (found_at x i r w.requests f).key_is
-      go Nothing f =
+      go None f =
           ap request_of (transmit_none t now w.requests x f).0
           ∙ none_mapped (reaches x (transmit_answer (walk t now w.requests).out)) (λ r. record_after r (transmit_of t now r))
 
@@ -280,28 +274,28 @@ module _ (rows x : ℕ) (w : World) (m : List ℕ) where
 
   module _ (t : Transport) (now : ℕ) (l : List StunRequestState) where
     ended_after : Ascending (keys_of l) → (how : End) (i : ℕ) (id : TransactionId) (a : StunRequestPollRet) → Ended t now l i id a
-        → request_of (lookup x (changed t (removes i) l)) ≡ on_some (cond (eqb (key id) x) (some how) none) (request_of (lookup x l)) (λ h. none)
+        → request_of (lookup x (changed t (removes i) l)) ≡ on_some (cond (eqb (key id) x) (Some how) None) (request_of (lookup x l)) (λ h. None)
     ended_after order how i id a s = go (eqb (key id) x) refl
       where
         go : (b : Bool) → eqb (key id) x ≡ b
-            → request_of (lookup x (changed t (removes i) l)) ≡ on_some (cond b (some how) none) (request_of (lookup x l)) (λ h. none)
+            → request_of (lookup x (changed t (removes i) l)) ≡ on_some (cond b (Some how) None) (request_of (lookup x l)) (λ h. None)
         go true b =
             let z : key_of s.request ≡ x = ap key s.id_is ∙ eqb-true (key id) x b in
             ap (λ (k : ℕ). request_of (lookup k (changed t (removes i) l))) (sym z) ∙ ap request_of (lookup_removed i s.request l order s.placed)
         go false b = ended_other x t now l i id a (eqb-false (key id) x b) s
 
     poll_after : Ascending (keys_of l) → (o : Polled) → Says t now (now + hour) l o
-        → request_of (lookup x (changed t (reported o) l)) ≡ on_some (report_end x (poll_answer o)) (request_of (lookup x l)) (λ h. none)
+        → request_of (lookup x (changed t (reported o) l)) ≡ on_some (report_end x (poll_answer o)) (request_of (lookup x l)) (λ h. None)
     poll_after order (TimedOut i id) s = ended_after order by_timeout i id poll-ret.TimedOut s
     poll_after order (Cancelled i id) s = ended_after order by_cancel i id poll-ret.Cancelled s
     poll_after order (WaitUntil clock) s = refl
 
-    poll_unended : lookup x l ≡ Nothing → (o : Polled) → Says t now (now + hour) l o → report_end x (poll_answer o) ≡ none
+    poll_unended : lookup x l ≡ None → (o : Polled) → Says t now (now + hour) l o → report_end x (poll_answer o) ≡ None
     poll_unended e (TimedOut i id) s = rw (ne_eqb (key id) x (poll_none t now l x i id poll-ret.TimedOut e s))
     poll_unended e (Cancelled i id) s = rw (ne_eqb (key id) x (poll_none t now l x i id poll-ret.Cancelled e s))
     poll_unended e (WaitUntil clock) s = refl
 
-  traced_reports : (now : ℕ) → StateFormed rows w → refusal_of rows w (scans reports now) m ≡ 0 → Traced rows x w (scans reports now) m
+  traced_reports : (now : ℕ) → StateFormed rows w → refusal_of rows w (scans reports now) m ≡ None → Traced rows x w (scans reports now) m
   traced_reports now formed e =
       let s = scan_said rows w reports now m e in
       let t = w.agent.transport in
@@ -317,23 +311,23 @@ module _ (rows x : ℕ) (w : World) (m : List ℕ) where
 
   -- ---- a call with an identifier
 
-  wish_after : (t : Transport) (l : List StunRequestState) (wish : Wish) (f : Found) → lookup x l ≡ f
+  wish_after : (t : Transport) (l : List StunRequestState) (wish : Wish) (f : Option (ℕ × StunRequestState)) → lookup x l ≡ f
       → request_of (lookup x (changed t (on_found f keeps (wished wish)) l)) ≡ mapped (request_of f) (wished_of wish)
-  wish_after t l wish Nothing e = ap request_of e
-  wish_after t l wish (At i r) e = go wish
+  wish_after t l wish None e = ap request_of e
+  wish_after t l wish (Some (i, r)) e = go wish
     where
       is : key_of r ≡ x
       is = (found_at x i r l e).key_is
 
-      go : (wish : Wish) → request_of (lookup x (changed t (wished wish i r) l)) ≡ some (wished_of wish r)
+      go : (wish : Wish) → request_of (lookup x (changed t (wished wish i r) l)) ≡ Some (wished_of wish r)
       go silence = ap request_of (lookup_set x i r (silenced r) l e (ap key (same_silenced r).id ∙ is))
       go cancel = ap request_of (lookup_set x i r (cancelled r) l e (ap key (same_cancelled r).id ∙ is))
       go (configure rto) = ap request_of (lookup_set x i r (configured rto r) l e (ap key (same_configured r rto).id ∙ is))
       go query = ap request_of e
 
-  traced_names : (id : TransactionId) (wish : Wish) → StateFormed rows w → refusal_of rows w (names id wish) m ≡ 0 → Traced rows x w (names id wish) m
+  traced_names : (id : TransactionId) (wish : Wish) → StateFormed rows w → refusal_of rows w (names id wish) m ≡ None → Traced rows x w (names id wish) m
   traced_names id wish formed e = record {
-    after = rw (eq-eqb (number_in (says_of rows w (names id wish) m).answer) 0 (answer_number rows w m (names id wish) ∙ e)) (go (eqb (key id) x) refl);
+    after = rw (answer_number rows w m (names id wish) ∙ e) (go (eqb (key id) x) refl);
     unsent = λ n. handed_passed (names id wish) e;
     unended = λ n. refl;
     begun = λ h. apart (sym h);
@@ -350,7 +344,7 @@ module _ (rows x : ℕ) (w : World) (m : List ℕ) where
 
   -- ---- the calls that touch no request
 
-  traced_passed : (k : Kind) → refusal_of rows w k m ≡ 0 → StateFormed rows w → Traced rows x w k m
+  traced_passed : (k : Kind) → refusal_of rows w k m ≡ None → StateFormed rows w → Traced rows x w k m
   traced_passed (carries (submits to now)) e formed = traced_submits to now formed e
   traced_passed (carries (sends to)) e formed = record {
     after = (passed_spares rows x w formed (carries (sends to)) m refl e refl).kept;
@@ -380,64 +374,64 @@ module _ (rows x : ℕ) (w : World) (m : List ℕ) where
 
   -- ---- a refused call
 
-  same_either : (p : Parsed) (o : Option StunRequestState) → o ≡ on_message p o (λ y. o)
-  same_either (Good y) o = refl
-  same_either Bad o = refl
+  same_either : (p : Option Message) (o : Option StunRequestState) → o ≡ on_message p o (λ y. o)
+  same_either (Some y) o = refl
+  same_either None o = refl
 
-  refused_followed : (n : ℕ) (k : Kind) (o : Option StunRequestState)
-      → o ≡ followed_by w.agent.transport w.agent.rto x k m (answer.Refused (suc n)) o
-  refused_followed n (carries (submits to now)) o = same_either (message_of m) o
-  refused_followed n (carries (sends to)) o = refl
-  refused_followed n (carries (receives from clock)) o = refl
-  refused_followed n (scans transmits now) o = refl
-  refused_followed n (scans reports now) o = refl
-  refused_followed n (names id wish) o = rw (ne_eqb (suc n) 0 (λ z. omega arith))
-  refused_followed n (meets a y) o = refl
-  refused_followed n (counts f) o = refl
+  refused_followed : (q : Refusal) (k : Kind) (o : Option StunRequestState)
+      → o ≡ followed_by w.agent.transport w.agent.rto x k m (answer.Refused q) o
+  refused_followed q (carries (submits to now)) o = same_either (message_of m) o
+  refused_followed q (carries (sends to)) o = refl
+  refused_followed q (carries (receives from clock)) o = refl
+  refused_followed q (scans transmits now) o = refl
+  refused_followed q (scans reports now) o = refl
+  refused_followed q (names id wish) o = refl
+  refused_followed q (meets a y) o = refl
+  refused_followed q (counts f) o = refl
 
-  pub refused_does : (n : ℕ) (k : Kind) → (submits_by x k (answer.Refused n) ≡ false) × (end_by x k m (answer.Refused n) ≡ none)
-  refused_does n (carries (submits to now)) = (refl, refl)
-  refused_does n (carries (sends to)) = (refl, refl)
-  refused_does n (carries (receives from clock)) = (refl, refl)
-  refused_does n (scans transmits now) = (refl, refl)
-  refused_does n (scans reports now) = (refl, refl)
-  refused_does n (names id wish) = (refl, refl)
-  refused_does n (meets a y) = (refl, refl)
-  refused_does n (counts f) = (refl, refl)
+  pub refused_does : (q : Refusal) (k : Kind) → (submits_by x k (answer.Refused q) ≡ false) × (end_by x k m (answer.Refused q) ≡ None)
+  refused_does q (carries (submits to now)) = (refl, refl)
+  refused_does q (carries (sends to)) = (refl, refl)
+  refused_does q (carries (receives from clock)) = (refl, refl)
+  refused_does q (scans transmits now) = (refl, refl)
+  refused_does q (scans reports now) = (refl, refl)
+  refused_does q (names id wish) = (refl, refl)
+  refused_does q (meets a y) = (refl, refl)
+  refused_does q (counts f) = (refl, refl)
 
   pub traced : (k : Kind) → Traced rows x w k m
   traced k = go (refusal_of rows w k m) refl
     where
-      go : (n : ℕ) → refusal_of rows w k m ≡ n → Traced rows x w k m
-      go zero e = traced_passed k e (passed_formed rows w k m e)
-      go (suc n) e =
-          let s = refused_same rows w k m n e in
+      go : (o : Option Refusal) → refusal_of rows w k m ≡ o → Traced rows x w k m
+      go None e = traced_passed k e (passed_formed rows w k m e)
+      go (Some q) e =
+          let s = refused_same rows w k m q e in
           record {
-            after = rw s (refused_followed n k (request_of (lookup x w.requests)));
-            unsent = λ z. rw s (sym (refused_does (suc n) k).0);
-            unended = λ z. rw s (refused_does (suc n) k).1;
-            begun = λ h. apart (sym (rw s at h) ∙ (refused_does (suc n) k).0);
-            once = λ r z. rw s (refused_does (suc n) k).0;
+            after = rw s (refused_followed q k (request_of (lookup x w.requests)));
+            unsent = λ z. rw s (sym (refused_does q k).0);
+            unended = λ z. rw s (refused_does q k).1;
+            begun = λ h. apart (sym (rw s at h) ∙ (refused_does q k).0);
+            once = λ r z. rw s (refused_does q k).0;
           }
 
   -- ---- only two calls hand it out
 
-  refused_handed : (n : ℕ) (k : Kind) → hands_out_it x (answer.Refused n) ≡ handed_by x k (answer.Refused n)
-  refused_handed n (carries (submits to now)) = refl
-  refused_handed n (carries (sends to)) = refl
-  refused_handed n (carries (receives from clock)) = refl
-  refused_handed n (scans transmits now) = refl
-  refused_handed n (scans reports now) = refl
-  refused_handed n (names id wish) = refl
-  refused_handed n (meets a y) = refl
-  refused_handed n (counts f) = refl
+  refused_handed : (q : Refusal) (k : Kind) → hands_out_it x (answer.Refused q) ≡ handed_by x k (answer.Refused q)
+  refused_handed q (carries (submits to now)) = refl
+  refused_handed q (carries (sends to)) = refl
+  refused_handed q (carries (receives from clock)) = refl
+  refused_handed q (scans transmits now) = refl
+  refused_handed q (scans reports now) = refl
+  refused_handed q (names id wish) = refl
+  refused_handed q (meets a y) = refl
+  refused_handed q (counts f) = refl
 
   pub handed : (k : Kind) → hands_out_it x (says_of rows w k m).answer ≡ handed_by x k (says_of rows w k m).answer
   handed k = go (refusal_of rows w k m) refl
     where
-      go : (n : ℕ) → refusal_of rows w k m ≡ n → hands_out_it x (says_of rows w k m).answer ≡ handed_by x k (says_of rows w k m).answer
-      go zero e = handed_passed k e
-      go (suc n) e = rw (refused_same rows w k m n e) (refused_handed (suc n) k)
+      go : (o : Option Refusal) → refusal_of rows w k m ≡ o → hands_out_it x (says_of rows w k m).answer ≡ handed_by x k (says_of rows w k m).answer
+      go None e = handed_passed k e
+      go (Some q) e = rw (refused_same rows w k m q e) (refused_handed q k)
 
 -- ---- a run
 
@@ -459,5 +453,5 @@ follows rows x tr rto (c ∷ ts) w t s =
     ∙ ap (λ (o : Option StunRequestState). followed_through tr rto x o (history rows (said rows w c).world ts)) (followed_at rows x tr rto w t s c)
 
 pub follows_fresh : (rows x : ℕ) (s : Start) (ts : List Turn)
-    → request_of (lookup x (run rows (begins s) ts).requests) ≡ followed_through s.transport s.rto x none (history rows (begins s) ts)
+    → request_of (lookup x (run rows (begins s) ts).requests) ≡ followed_through s.transport s.rto x None (history rows (begins s) ts)
 follows_fresh rows x s ts = follows rows x s.transport s.rto ts (begins s) refl refl

@@ -5,20 +5,20 @@
 --     round_idle                     a round before the wait sends and reports nothing
 --     positive_run                   where no zero is set, no request has one
 --     last_sentence
-use Prim.Native.Nat.{ℕ, zero, suc, ◌+◌, ◌^◌, ◌≤◌, ◌<◌, max}
+use Rattle.model.specs.declared.Refusal.{Refusal}
+use Rattle.model.specs.declared.Refusal.TheVariants.{State}
+use Rattle.std.specs.Prelude.{Option, None, Some, slice_get}
+use Rattle.message.specs.declared.Message.{Message}
+use Prim.Native.Nat.{ℕ, suc, ◌+◌, ◌^◌, ◌≤◌, ◌<◌, max}
 use mathlib.Core.Path.{◌≡◌, refl, sym, ap, ◌∙◌, subst}
 use mathlib.Core.Bool.{Bool, true, false, cond, not, ◌||◌, and-false}
 use mathlib.Core.List.{List, [], ◌∷◌, ◌++◌, map}
-use mathlib.Core.Option.{some}
 use mathlib.Core.Logic.{◌⊎◌, inl, inr}
-use lib.ListN.{get_elem?}
 use native.Mathlib.Omega.{arith}
 use Rattle.address.specs.declared.Address.{Address}
 use Rattle.message.specs.Head.{key}
 use Rattle.message.specs.Attributes.{message_of}
 use Rattle.message.specs.declared.TransactionId.{TransactionId}
-use Rattle.message.specs.declared.Parsed.{Parsed}
-use Rattle.message.specs.declared.Parsed.TheVariants.{Good, Bad}
 use Rattle.waits.specs.declared.RequestRto.{RequestRto}
 use Rattle.waits.specs.declared.Transport.{Transport}
 use Rattle.request.specs.Times.{is_due, moment_of}
@@ -31,10 +31,6 @@ use Rattle.request.proofs.Kept.{settings_transmit, rto_silenced, rto_cancelled, 
 use Rattle.request.proofs.Moments.{ahead, Between, still_ahead}
 use Rattle.requests.specs.Search.{lookup}
 use Rattle.requests.specs.Scan.{hour, Walk, walk, poll_all}
-use Rattle.requests.specs.declared.Found.{Found}
-use Rattle.requests.specs.declared.Found.TheVariants.{At, Nothing}
-use Rattle.requests.specs.declared.Transmitted.{Transmitted}
-use Rattle.requests.specs.declared.Transmitted.TheVariants.{Sends, Quiet}
 use Rattle.requests.specs.declared.Polled.{Polled}
 use Rattle.requests.specs.declared.Polled.TheVariants.{TimedOut, Cancelled, WaitUntil}
 use Rattle.requests.proofs.Lists.{apart}
@@ -44,7 +40,7 @@ use Rattle.requests.proofs.Polls.{NoneEnds, Earliest, poll_waits, waits_exactly}
 use Rattle.model.specs.World.{World, StateFormed}
 use Rattle.model.specs.Calls.{submits as submits-at, sends as sends_other, receives, transmits, reports, Wish, silence, cancel, configure, query, Kind, carries, scans, names, meets, counts, settings_of, wish_settings}
 use Rattle.model.specs.Accepts.{on_message, is_response, accepts}
-use Rattle.model.specs.Refusals.{STATE, number_of, refusal_of}
+use Rattle.model.specs.Refusals.{refusal_of}
 use Rattle.model.specs.Effects.{on_found, keeps, changed, taken, answered, reported, wished, transmit_answer, poll_answer}
 use Rattle.model.specs.Says.{Said, says_of}
 use Rattle.model.specs.Runs.{Turn, run}
@@ -90,9 +86,9 @@ module _ (rows : ℕ) (tr : Transport) (set : RequestRto) (now : ℕ) (low : now
         heard = ok_said rows tr set m now w (kind_in (poll now)) [] o l (omega arith);
       }
 
-quiet_answer : (t : Transmitted) → transmit_answer t ≡ answer.None → t ≡ Quiet
-quiet_answer (Sends p) e = apart (ap hands_out e)
-quiet_answer Quiet e = refl
+quiet_answer : (t : Option StunRequestState) → transmit_answer t ≡ answer.None → t ≡ None
+quiet_answer (Some p) e = apart (ap hands_out e)
+quiet_answer None e = refl
 
 wait_answer : (p : Polled) (m : ℕ) → poll_answer p ≡ answer.Wait m → p ≡ WaitUntil m
 wait_answer (TimedOut i id) m e = apart (ap is_report e)
@@ -145,7 +141,7 @@ module _ (rows : ℕ) (tr : Transport) (set : RequestRto) (now : ℕ) (low : now
 
 module _ (tr : Transport) (now clock : ℕ) (l : List StunRequestState) (early : Earliest tr now (now + hour) l clock) where
   -- each request waits for its moment
-  wait_is : (i : ℕ) (r : StunRequestState) → get_elem? l i ≡ some r → (c : ℕ) → poll_of tr now r ≡ poll-ret.WaitUntil c → c ≡ max now (moment_of tr now r)
+  wait_is : (i : ℕ) (r : StunRequestState) → slice_get l i ≡ Some r → (c : ℕ) → poll_of tr now r ≡ poll-ret.WaitUntil c → c ≡ max now (moment_of tr now r)
   wait_is i r e c p =
       let z : wait_clock now (poll_of tr now r) ≡ max now (moment_of tr now r) = wait_clock_lem tr now r now (ap ends p) in
       rw p at z
@@ -160,7 +156,7 @@ module _ (tr : Transport) (now clock : ℕ) (l : List StunRequestState) (early :
           which true e = b e
           which false e = a.loud k e
 
-      go : (clock ≡ now + hour) ⊎ ((i : ℕ) × (r : StunRequestState) × (get_elem? l i ≡ some r) × (poll_of tr now r ≡ poll-ret.WaitUntil clock)) → now < clock
+      go : (clock ≡ now + hour) ⊎ ((i : ℕ) × (r : StunRequestState) × (slice_get l i ≡ Some r) × (poll_of tr now r ≡ poll-ret.WaitUntil clock)) → now < clock
       go (inl e) = omega arith
       go (inr y) =
           let r = y.1 in
@@ -190,7 +186,7 @@ module _ (tr : Transport) (now clock : ℕ) (l : List StunRequestState) (early :
         stays = staying tr now r (ap ends y.1);
       })
     where
-      collect : (k : List StunRequestState) → ((i : ℕ) (r : StunRequestState) → get_elem? k i ≡ some r → Asleep soon r) → All (Asleep soon) k
+      collect : (k : List StunRequestState) → ((i : ℕ) (r : StunRequestState) → slice_get k i ≡ Some r → Asleep soon r) → All (Asleep soon) k
       collect [] f = tt
       collect (r ∷ rs) f = (f 0 r refl, collect rs (λ i q e. f (suc i) q e))
 
@@ -255,20 +251,20 @@ abbrev PositiveIn : StunRequestState → Type 0
 PositiveIn r = Positive r.rto
 
 module _ (tr : Transport) (l : List StunRequestState) (h : All PositiveIn l) where
-  received_positive : (from : Address) (p : Parsed) → All PositiveIn (changed tr (on_message p keeps (answered l from)) l)
-  received_positive from Bad = h
-  received_positive from (Good y) = go (accepts l from y) (is_response y.class) (lookup (key y.transaction_id) l)
+  received_positive : (from : Address) (p : Option Message) → All PositiveIn (changed tr (on_message p keeps (answered l from)) l)
+  received_positive from None = h
+  received_positive from (Some y) = go (accepts l from y) (is_response y.class) (lookup (key y.transaction_id) l)
     where
-      go : (a r : Bool) (f : Found) → All PositiveIn (changed tr (cond a (cond r (taken f) keeps) keeps) l)
+      go : (a r : Bool) (f : Option (ℕ × StunRequestState)) → All PositiveIn (changed tr (cond a (cond r (taken f) keeps) keeps) l)
       go false r f = h
       go true false f = h
-      go true true (At i q) = all_removed PositiveIn l i h
-      go true true Nothing = h
+      go true true (Some (i, q)) = all_removed PositiveIn l i h
+      go true true None = h
 
-  wish_positive : (id : TransactionId) (wish : Wish) → PositiveIf (wish_settings wish) → (f : Found) → lookup (key id) l ≡ f
+  wish_positive : (id : TransactionId) (wish : Wish) → PositiveIf (wish_settings wish) → (f : Option (ℕ × StunRequestState)) → lookup (key id) l ≡ f
       → All PositiveIn (changed tr (on_found f keeps (wished wish)) l)
-  wish_positive id wish p Nothing e = h
-  wish_positive id wish p (At i r) e = go wish p
+  wish_positive id wish p None e = h
+  wish_positive id wish p (Some (i, r)) e = go wish p
     where
       old : PositiveIn r
       old = all_at PositiveIn l i r h (found_at (key id) i r l e).placed
@@ -283,7 +279,7 @@ walked_positive : (tr : Transport) (now : ℕ) (r : StunRequestState) → Positi
 walked_positive tr now r p = rw (settings_transmit r now tr).rto p
 
 module _ (rows : ℕ) (w : World) (formed : StateFormed rows w) (built : Positive w.agent.rto) (h : All PositiveIn w.requests) where
-  passed_positive : (k : Kind) (b : List ℕ) → refusal_of rows w k b ≡ 0 → PositiveIf (settings_of k) → All PositiveIn (says_of rows w k b).world.requests
+  passed_positive : (k : Kind) (b : List ℕ) → refusal_of rows w k b ≡ None → PositiveIf (settings_of k) → All PositiveIn (says_of rows w k b).world.requests
   passed_positive (carries (submits-at to now)) b e p =
       let a = request_accepted rows w to now b formed e in
       rw a.requests (all_added PositiveIn w.requests a.request (rw (accepted_settings rows w to now b _ a) built) h)
@@ -302,12 +298,12 @@ module _ (rows : ℕ) (w : World) (formed : StateFormed rows w) (built : Positiv
   passed_positive (meets a x) b e p = rw ((done rows w (meets a x) b e).requests, change_meets rows w b a x) h
   passed_positive (counts f) b e p = rw ((done rows w (counts f) b e).requests, change_counts rows w b f) h
 
-  said_positive : (t : Turn) → (refusal_of rows w (kind_in t) t.bytes ≡ 0 → PositiveIf (settings_of (kind_in t))) → All PositiveIn (said rows w t).world.requests
+  said_positive : (t : Turn) → (refusal_of rows w (kind_in t) t.bytes ≡ None → PositiveIf (settings_of (kind_in t))) → All PositiveIn (said rows w t).world.requests
   said_positive t p = go (refusal_of rows w (kind_in t) t.bytes) refl
     where
-      go : (n : ℕ) → refusal_of rows w (kind_in t) t.bytes ≡ n → All PositiveIn (said rows w t).world.requests
-      go zero e = passed_positive (kind_in t) t.bytes e (p e)
-      go (suc n) e = rw (refused_same rows w (kind_in t) t.bytes n e) h
+      go : (o : Option Refusal) → refusal_of rows w (kind_in t) t.bytes ≡ o → All PositiveIn (said rows w t).world.requests
+      go None e = passed_positive (kind_in t) t.bytes e (p e)
+      go (Some q) e = rw (refused_same rows w (kind_in t) t.bytes q e) h
 
 pub positive_run : (rows : ℕ) (w : World) (ts : List Turn) → StateFormed rows w → Positive w.agent.rto → NoZeroSet rows w ts → All PositiveIn w.requests
     → All PositiveIn (run rows w ts).requests
@@ -320,12 +316,12 @@ positive_run rows w (t ∷ ts) f p z h =
 -- ---- the sentence
 
 -- the first transmission of a round isn't refused by 1
-transmits_state : {rows now : ℕ} {w v : World} {ts : List Turn} → Transmits rows now w ts v → refusal_of rows w (kind_in (transmission now)) [] ≡ number_of STATE → ⊥
+transmits_state : {rows now : ℕ} {w v : World} {ts : List Turn} → Transmits rows now w ts v → refusal_of rows w (kind_in (transmission now)) [] ≡ Some State → ⊥
 transmits_state {rows} {now} (none_left {w} e) f =
-    let r : (says_of rows w (kind_in (transmission now)) []).answer ≡ answer.Refused 1 = ap (λ (z : Said). z.answer) (refused_same rows w (kind_in (transmission now)) [] 0 f) in
+    let r : (says_of rows w (kind_in (transmission now)) []).answer ≡ answer.Refused State = ap (λ (z : Said). z.answer) (refused_same rows w (kind_in (transmission now)) [] State f) in
     let z : ◌≡◌ {A = ℕ} 0 1 = cc in omega arith
 transmits_state {rows} {now} (one_more {w} e d) f =
-    apart (sym e ∙ ap (λ (z : Said). hands_out z.answer) (refused_same rows w (kind_in (transmission now)) [] 0 f))
+    apart (sym e ∙ ap (λ (z : Said). hands_out z.answer) (refused_same rows w (kind_in (transmission now)) [] State f))
 
 pub last_sentence : (rows : ℕ) (s : Start) (ss : List Step) (before rs : List Turn) (now clock : ℕ) (u : World) → Runs rows (begins s) ss before
     → Steady 0 (ss ++ (plays now ∷ [])) → Round rows now (run rows (begins s) before) rs u clock → LastSentence rows s before now clock u

@@ -5,11 +5,12 @@
 --     sends_stay, end_stay          at one where it isn't, nor over
 --     sends_over, end_over          at one where it is over
 --     loud_goes, timed_over, waits_over, not_cancelled      what the two scans say of it
+use Rattle.std.specs.Prelude.{Option, None, Some}
+use Rattle.request.specs.Times.{sent_times}
 use Prim.Native.Nat.{ℕ, zero, suc, ◌+◌, ◌-◌, ◌≤◌, ◌<◌, max}
 use mathlib.Core.Path.{◌≡◌, refl, sym, ◌∙◌}
 use mathlib.Core.Bool.{Bool, true, false, cond, not, ◌&&◌, and-true, false≢true}
 use mathlib.Core.List.{List, [], ◌∷◌}
-use mathlib.Core.Option.{Option, none, some}
 use mathlib.Core.Logic.{◌⊎◌, inl, inr}
 use lib.Dec.{leb}
 use borrow.Author.Tests.{leb-true, leb-false, le-leb, lt-leb}
@@ -21,7 +22,6 @@ use Rattle.waits.specs.declared.Transport.{Transport}
 use Rattle.request.specs.Times.{is_due, is_over, moment_of}
 use Rattle.request.specs.Request.{stepped, transmit_of, poll_of}
 use Rattle.request.specs.Answers.{goes_out}
-use Rattle.request.specs.declared.SendTimes.TheVariants.{Sent}
 use Rattle.request.specs.declared.StunRequestState.{StunRequestState}
 use Rattle.request.specs.declared.StunRequestPollRet.TheVariants.{WaitUntil, Cancelled, TimedOut}
 use Rattle.request.proofs.Answers.{goes_exactly}
@@ -44,8 +44,8 @@ module _ (tr : Transport) (s : RequestRto) (t : ℕ) (ts : List ℕ) where
     where
       go : (o : Option ℕ) → From (l + wait_of s c) o → ((l : ℕ) → t < l + wait_of s (suc c) → send_times s k (suc c) l (t ∷ ts) ≡ send_times s k (suc c) l ts)
           → ◌≡◌ {A = List ℕ} (on_some o [] (λ u. u ∷ send_times s k (suc c) u (t ∷ ts))) (on_some o [] (λ u. u ∷ send_times s k (suc c) u ts))
-      go none f ih = refl
-      go (some u) f ih = rw (ih u (omega arith))
+      go None f ih = refl
+      go (Some u) f ih = rw (ih u (omega arith))
 
   -- what is waited for, with k sends left
   abbrev aim : ℕ → ℕ → ℕ → ℕ
@@ -60,7 +60,7 @@ module _ (tr : Transport) (s : RequestRto) (t : ℕ) (ts : List ℕ) where
   unfolding end_time next
   end_due k c l h = rw (le-leb (l + wait_of s c) t h)
 
-  end_now : (c l : ℕ) → l + final_wait tr s ≤ t → end_time tr s 0 c l (t ∷ ts) ≡ some t
+  end_now : (c l : ℕ) → l + final_wait tr s ≤ t → end_time tr s 0 c l (t ∷ ts) ≡ Some t
   unfolding end_time next
   end_now c l h = rw (le-leb (l + final_wait tr s) t h)
 
@@ -70,14 +70,14 @@ module _ (tr : Transport) (s : RequestRto) (t : ℕ) (ts : List ℕ) where
   end_skip (suc k) c l h = rw (lt-leb (l + wait_of s c) t h) (go (next ts (l + wait_of s c)) (next_from ts (l + wait_of s c)) (end_skip k (suc c)))
     where
       go : (o : Option ℕ) → From (l + wait_of s c) o → ((l : ℕ) → t < aim k (suc c) l → end_time tr s k (suc c) l (t ∷ ts) ≡ end_time tr s k (suc c) l ts)
-          → ◌≡◌ {A = Option ℕ} (on_some o none (λ u. end_time tr s k (suc c) u (t ∷ ts))) (on_some o none (λ u. end_time tr s k (suc c) u ts))
-      go none f ih = refl
-      go (some u) f ih = ih u (omega (arith, aim_from k (suc c) u))
+          → ◌≡◌ {A = Option ℕ} (on_some o None (λ u. end_time tr s k (suc c) u (t ∷ ts))) (on_some o None (λ u. end_time tr s k (suc c) u ts))
+      go None f ih = refl
+      go (Some u) f ih = ih u (omega (arith, aim_from k (suc c) u))
 
 -- a request that was last sent at a clock, and neither silenced nor cancelled
 pub record Loud (last : ℕ) (r : StunRequestState) : Type 0 where
   pub first : ℕ
-  pub times : r.send_times ≡ Sent first last
+  pub times : r.send_times ≡ sent_times first last
   pub silent : r.send_cancelled ≡ false
   pub dropped : r.recv_cancelled ≡ false
 
@@ -184,7 +184,7 @@ module _ (tr : Transport) (t last : ℕ) (r : StunRequestState) (q : Loud last r
     unfolding send_times
     sends_over e = let z : waits_of tr r.rto - r.timeout_i ≡ 0 = omega (arith, (over_facts e).all) in rw z
 
-    pub end_over : is_over tr t r ≡ true → end_from tr r last (t ∷ ts) ≡ some t
+    pub end_over : is_over tr t r ≡ true → end_from tr r last (t ∷ ts) ≡ Some t
     end_over e =
         let f = over_facts e in
         let z : waits_of tr r.rto - r.timeout_i ≡ 0 = omega (arith, f.all) in

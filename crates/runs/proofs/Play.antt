@@ -2,6 +2,7 @@
 --     round_unique         there is at most one round at a clock
 --     round_played         what the function plays is the round: its bound is enough
 --     runs_played          and so each list of steps with steady clocks has a run
+use Rattle.std.specs.Prelude.{Option, None, Some}
 use Prim.Native.Nat.{ℕ, zero, suc, ◌+◌, ◌^◌, ◌≤◌, ◌<◌, zero-le}
 use mathlib.Core.Path.{◌≡◌, refl, sym, ap, ◌∙◌, subst}
 use mathlib.Core.Bool.{Bool, true, false, cond, not, ◌&&◌}
@@ -20,8 +21,6 @@ use Rattle.request.specs.declared.StunRequestTransmit.TheVariants.{Rests, Passes
 use Rattle.request.proofs.Answers.{goes_exactly, after_exactly}
 use Rattle.request.proofs.Moments.{Steps, first_send, one_left, due_step, goes_stepped}
 use Rattle.requests.specs.Scan.{hour, meet, walk, poll_all}
-use Rattle.requests.specs.declared.Transmitted.{Transmitted}
-use Rattle.requests.specs.declared.Transmitted.TheVariants.{Sends, Quiet}
 use Rattle.requests.specs.declared.Polled.{Polled}
 use Rattle.requests.specs.declared.Polled.TheVariants.{TimedOut, Cancelled, WaitUntil}
 use Rattle.requests.proofs.Lists.{apart}
@@ -116,9 +115,9 @@ module _ (tr : Transport) (now : ℕ) where
   poll_less l (Cancelled i id) s e = omega (arith, length_remove_at l i s.below, s.below)
   poll_less l (WaitUntil clock) s e = apart (sym e)
 
-none_answer : (t : Transmitted) → hands_out (transmit_answer t) ≡ false → transmit_answer t ≡ answer.None
-none_answer (Sends p) e = apart e
-none_answer Quiet e = refl
+none_answer : (t : Option StunRequestState) → hands_out (transmit_answer t) ≡ false → transmit_answer t ≡ answer.None
+none_answer (Some p) e = apart e
+none_answer None e = refl
 
 told_answer : (p : Polled) → is_report (poll_answer p) ≡ false → (clock : ℕ) × (poll_answer p ≡ answer.Wait clock)
 told_answer (TimedOut i id) e = apart e

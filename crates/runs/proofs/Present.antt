@@ -3,12 +3,11 @@
 --     Went, transmits_went       the transmissions of a round
 --     Outcome, polls_outcome     its polls, and that its wait is at most x's next moment
 --     Closed, present_run        a run
+use Rattle.std.specs.Prelude.{None, Some, Option, is_none}
 use Prim.Native.Nat.{ℕ, ◌^◌, ◌≤◌, zero, suc}
 use mathlib.Core.Path.{◌≡◌, refl, sym, ap, ◌∙◌, subst}
 use mathlib.Core.Bool.{true, false, and-false}
 use mathlib.Core.List.{List, [], ◌∷◌, ◌++◌, append_assoc, append-nil}
-use mathlib.Core.Option.{Option, none, some}
-use lib.Dec.{eqb}
 use borrow.Author.Tests.{eq-eqb, ne_eqb}
 use native.Mathlib.Omega.{arith}
 use Rattle.message.specs.Head.{key}
@@ -21,9 +20,6 @@ use Rattle.request.specs.declared.StunRequestPollRet.TheVariants as poll-ret
 use Rattle.request.proofs.Kept.{same_stepped}
 use Rattle.requests.specs.Search.{key_of, lookup, request_of}
 use Rattle.requests.specs.Scan.{poll_all}
-use Rattle.requests.specs.declared.Found.{Found}
-use Rattle.requests.specs.declared.Found.TheVariants.{At, Nothing}
-use Rattle.requests.specs.declared.Transmitted.{Transmitted}
 use Rattle.requests.specs.declared.Polled.{Polled}
 use Rattle.requests.proofs.Lists.{apart, some_same, none_some}
 use Rattle.requests.proofs.Search.{found_at, lookup_taken}
@@ -61,26 +57,26 @@ alone_rest : (rows x : ℕ) (w : World) (rs bs : List Turn) → LeftAlone rows x
 alone_rest rows x w [] bs h = h
 alone_rest rows x w (t ∷ rs) bs h = alone_rest rows x (said rows w t).world rs bs h.1
 
-pub found_of : {r : StunRequestState} (f : Found) → request_of f ≡ some r → (i : ℕ) × (f ≡ At i r)
-found_of (At i q) e = (i, ap (At i) (some_same e))
-found_of Nothing e = none_some e
+pub found_of : {r : StunRequestState} (f : Option (ℕ × StunRequestState)) → request_of f ≡ Some r → (i : ℕ) × (f ≡ Some (i, r))
+found_of (Some (i, q)) e = (i, ap (λ (r : StunRequestState). Some (i, r)) (some_same e))
+found_of None e = none_some e
 
 -- ---- one transmission: its answer, and x's record afterwards
 
 data Reached (x : ℕ) (tr : Transport) (now : ℕ) (r : StunRequestState) : Answer → Option StunRequestState → Type 0 where
-  hit : {a : Answer} → is_due tr now r ≡ true → hands_out a ≡ true → hands_out_it x a ≡ true → Reached x tr now r a (some (stepped now r))
-  passed : {a : Answer} → hands_out a ≡ true → hands_out_it x a ≡ false → Reached x tr now r a (some r)
-  nobody : is_due tr now r ≡ false → Reached x tr now r answer.None (some r)
+  hit : {a : Answer} → is_due tr now r ≡ true → hands_out a ≡ true → hands_out_it x a ≡ true → Reached x tr now r a (Some (stepped now r))
+  passed : {a : Answer} → hands_out a ≡ true → hands_out_it x a ≡ false → Reached x tr now r a (Some r)
+  nobody : is_due tr now r ≡ false → Reached x tr now r answer.None (Some r)
 
 reached_by : (x : ℕ) (tr : Transport) (now last : ℕ) (r : StunRequestState) → Loud last r → key_of r ≡ x
-    → (o : Transmitted) (q : StunRequestState) → MetLoud tr now r o q → Reached x tr now r (transmit_answer o) (some q)
+    → (o : Option StunRequestState) (q : StunRequestState) → MetLoud tr now r o q → Reached x tr now r (transmit_answer o) (Some q)
 reached_by x tr now last r l k o q (goes e) =
     hit (sym (loud_goes tr now last r l) ∙ e) refl (eq-eqb _ x (ap key (same_stepped r now).id ∙ k))
 reached_by x tr now last r l k o q (other {p} n) = passed refl (ne_eqb (key_of p) x (λ z. n (z ∙ sym k)))
 reached_by x tr now last r l k o q (none_goes e) = nobody (sym (loud_goes tr now last r l) ∙ e)
 
 module _ (rows x : ℕ) (tr : Transport) (set : RequestRto) (now : ℕ) (low : now ≤ 2 ^ 60) where
-  one_transmit : (m : ℕ) (w : World) → Ok rows tr set m w → m ≤ now → (last : ℕ) (r : StunRequestState) → request_of (lookup x w.requests) ≡ some r → Loud last r
+  one_transmit : (m : ℕ) (w : World) → Ok rows tr set m w → m ≤ now → (last : ℕ) (r : StunRequestState) → request_of (lookup x w.requests) ≡ Some r → Loud last r
       → Reached x tr now r (said rows w (transmission now)).answer (request_of (lookup x (said rows w (transmission now)).world.requests))
   one_transmit m w o l last r f q =
       let s = scan_said rows w transmits now [] (scan_passes rows w transmits now [] o.formed (omega (arith, o.mark)) low) in
@@ -97,14 +93,14 @@ module _ (rows x : ℕ) (tr : Transport) (set : RequestRto) (now : ℕ) (low : n
     pub clock : ℕ
     pub request : StunRequestState
     pub loud : Loud clock request
-    pub found : request_of (lookup x v.requests) ≡ some request
+    pub found : request_of (lookup x v.requests) ≡ Some request
     pub quiet : is_due tr now request ≡ false
     pub sent : (cs : List ℕ) → sends_from tr r last (now ∷ cs) ≡ sends rows x w ts ++ sends_from tr request clock cs
     pub end : (cs : List ℕ) → end_from tr r last (now ∷ cs) ≡ end_from tr request clock (now ∷ cs)
     pub untimed : timeouts rows x w ts ≡ []
 
   pub transmits_went : {w v : World} {ts : List Turn} → Transmits rows now w ts v → (m : ℕ) → Ok rows tr set m w → m ≤ now
-      → (last : ℕ) (r : StunRequestState) → request_of (lookup x w.requests) ≡ some r → Loud last r → Went w last r ts v
+      → (last : ℕ) (r : StunRequestState) → request_of (lookup x w.requests) ≡ Some r → Loud last r → Went w last r ts v
   unfolding sends timeouts
   transmits_went (none_left {w} e) m o l last r f q = go _ _ (one_transmit m w o l last r f q) e refl
     where
@@ -128,7 +124,7 @@ module _ (rows x : ℕ) (tr : Transport) (set : RequestRto) (now : ℕ) (low : n
     where
       go : (a : Answer) (g : Option StunRequestState) → Reached x tr now r a g → (said rows w (transmission now)).answer ≡ a
           → request_of (lookup x (said rows w (transmission now)).world.requests) ≡ g
-          → ((last' : ℕ) (r' : StunRequestState) → request_of (lookup x (said rows w (transmission now)).world.requests) ≡ some r' → Loud last' r'
+          → ((last' : ℕ) (r' : StunRequestState) → request_of (lookup x (said rows w (transmission now)).world.requests) ≡ Some r' → Loud last' r'
           → Went (said rows w (transmission now)).world last' r' ts v)
           → Went w last r (transmission now ∷ ts) v
       go a g (hit due h i) z k ih =
@@ -160,12 +156,12 @@ module _ (rows x : ℕ) (tr : Transport) (set : RequestRto) (now : ℕ) (low : n
 -- ---- one poll: its answer, and x's record afterwards
 
 data Heard (x : ℕ) (tr : Transport) (now : ℕ) (r : StunRequestState) : Answer → Option StunRequestState → Type 0 where
-  it_ended : {a : Answer} → poll_of tr now r ≡ poll-ret.TimedOut → is_report a ≡ true → times_out_it x a ≡ true → Heard x tr now r a none
-  another_ended : {a : Answer} → is_report a ≡ true → times_out_it x a ≡ false → Heard x tr now r a (some r)
-  none_ended : {m clock : ℕ} → poll_of tr now r ≡ poll-ret.WaitUntil clock → m ≤ clock → Heard x tr now r (answer.Wait m) (some r)
+  it_ended : {a : Answer} → poll_of tr now r ≡ poll-ret.TimedOut → is_report a ≡ true → times_out_it x a ≡ true → Heard x tr now r a None
+  another_ended : {a : Answer} → is_report a ≡ true → times_out_it x a ≡ false → Heard x tr now r a (Some r)
+  none_ended : {m clock : ℕ} → poll_of tr now r ≡ poll-ret.WaitUntil clock → m ≤ clock → Heard x tr now r (answer.Wait m) (Some r)
 
 module _ (rows x : ℕ) (tr : Transport) (set : RequestRto) (now : ℕ) (low : now ≤ 2 ^ 60) (last : ℕ) (r : StunRequestState) (q : Loud last r) where
-  one_poll : (m : ℕ) (w : World) → Ok rows tr set m w → m ≤ now → request_of (lookup x w.requests) ≡ some r
+  one_poll : (m : ℕ) (w : World) → Ok rows tr set m w → m ≤ now → request_of (lookup x w.requests) ≡ Some r
       → Heard x tr now r (said rows w (poll now)).answer (request_of (lookup x (said rows w (poll now)).world.requests))
   one_poll m w o l f =
       let s = scan_said rows w reports now [] (scan_passes rows w reports now [] o.formed (omega (arith, o.mark)) low) in
@@ -173,7 +169,7 @@ module _ (rows x : ℕ) (tr : Transport) (set : RequestRto) (now : ℕ) (low : n
       subst (λ (v : Transport). Heard x v now r (said rows w (poll now)).answer (request_of (lookup x (said rows w (poll now)).world.requests))) o.transport
       (rw (s.answers, s.requests) (go u (poll_all u now w.requests) refl (poll_found u now w.requests x a.0 r o.formed.requests.order a.1)))
     where
-      a : (i : ℕ) × (lookup x w.requests ≡ At i r)
+      a : (i : ℕ) × (lookup x w.requests ≡ Some (i, r))
       a = found_of (lookup x w.requests) f
 
       is : key_of r ≡ x
@@ -193,20 +189,20 @@ module _ (rows x : ℕ) (tr : Transport) (set : RequestRto) (now : ℕ) (low : n
 
   -- the polls of a round
   pub data Outcome (w : World) (ts : List Turn) (v : World) (m : ℕ) : Type 0 where
-    stayed : {clock : ℕ} → poll_of tr now r ≡ poll-ret.WaitUntil clock → m ≤ clock → timeouts rows x w ts ≡ [] → request_of (lookup x v.requests) ≡ some r
+    stayed : {clock : ℕ} → poll_of tr now r ≡ poll-ret.WaitUntil clock → m ≤ clock → timeouts rows x w ts ≡ [] → request_of (lookup x v.requests) ≡ Some r
         → Outcome w ts v m
-    timed : poll_of tr now r ≡ poll-ret.TimedOut → timeouts rows x w ts ≡ now ∷ [] → request_of (lookup x v.requests) ≡ none → Outcome w ts v m
+    timed : poll_of tr now r ≡ poll-ret.TimedOut → timeouts rows x w ts ≡ now ∷ [] → request_of (lookup x v.requests) ≡ None → Outcome w ts v m
 
   polls_alone : {w v : World} {ts : List Turn} {m : ℕ} → Polls rows now w ts v m → LeftAlone rows x w ts
-  polls_alone (told_to_wait {w} e) = (and-false (eqb (refusal_of rows w (kind_in (poll now)) []) 0), tt)
-  polls_alone (one_report {w} e d) = (and-false (eqb (refusal_of rows w (kind_in (poll now)) []) 0), polls_alone d)
+  polls_alone (told_to_wait {w} e) = (and-false (is_none (refusal_of rows w (kind_in (poll now)) [])), tt)
+  polls_alone (one_report {w} e d) = (and-false (is_none (refusal_of rows w (kind_in (poll now)) [])), polls_alone d)
 
   pub polls_unsent : {w v : World} {ts : List Turn} {m : ℕ} → Polls rows now w ts v m → sends rows x w ts ≡ []
   unfolding sends
   polls_unsent (told_to_wait e) = refl
   polls_unsent (one_report e d) = polls_unsent d
 
-  pub polls_outcome : {w v : World} {ts : List Turn} {m : ℕ} → Polls rows now w ts v m → Ok rows tr set now w → request_of (lookup x w.requests) ≡ some r
+  pub polls_outcome : {w v : World} {ts : List Turn} {m : ℕ} → Polls rows now w ts v m → Ok rows tr set now w → request_of (lookup x w.requests) ≡ Some r
       → Outcome w ts v m
   unfolding timeouts
   polls_outcome (told_to_wait {w} {clock = m} e) o f = go _ _ (one_poll now w o (omega arith) f) refl refl
@@ -225,7 +221,7 @@ module _ (rows x : ℕ) (tr : Transport) (set : RequestRto) (now : ℕ) (low : n
     where
       go : Ok rows tr set now (said rows w (poll now)).world → (a : Answer) (g : Option StunRequestState) → Heard x tr now r a g → (said rows w (poll now)).answer ≡ a
           → request_of (lookup x (said rows w (poll now)).world.requests) ≡ g
-          → (request_of (lookup x (said rows w (poll now)).world.requests) ≡ some r → Outcome (said rows w (poll now)).world ts v m)
+          → (request_of (lookup x (said rows w (poll now)).world.requests) ≡ Some r → Outcome (said rows w (poll now)).world ts v m)
           → Outcome w (poll now ∷ ts) v m
       go o' a g (it_ended t h i) z k ih =
           let y = absent_run rows x (said rows w (poll now)).world ts o'.formed (polls_alone d) k in
@@ -248,7 +244,7 @@ unfolding send_times next
 sends_nil s zero c l = refl
 sends_nil s (suc k) c l = refl
 
-end_nil : (tr : Transport) (s : RequestRto) (k c l : ℕ) → end_time tr s k c l [] ≡ none
+end_nil : (tr : Transport) (s : RequestRto) (k c l : ℕ) → end_time tr s k c l [] ≡ None
 unfolding end_time next
 end_nil tr s zero c l = refl
 end_nil tr s (suc k) c l = refl
@@ -263,7 +259,7 @@ module _ (rows x : ℕ) (tr : Transport) (set : RequestRto) where
   }
 
   pub present_run : {w : World} {ss : List Step} {ts : List Turn} → Runs rows w ss ts → (m : ℕ) → Ok rows tr set m w → Steady m ss → LeftAlone rows x w ts
-      → (last : ℕ) (r : StunRequestState) → request_of (lookup x w.requests) ≡ some r → Loud last r
+      → (last : ℕ) (r : StunRequestState) → request_of (lookup x w.requests) ≡ Some r → Loud last r
       → Closed rows x w ts (sends_from tr r last (rounds ss)) (list_of (end_from tr r last (rounds ss)))
   unfolding sends timeouts
   present_run ends m o h n last r f q = record { sent = sym (sends_nil r.rto _ _ last); over = rw (end_nil tr r.rto _ _ last) }
@@ -294,7 +290,7 @@ module _ (rows x : ℕ) (tr : Transport) (set : RequestRto) where
       timed_in = timeouts_append rows x w as' ps ∙ rw (transmits_world a, g.untimed)
 
       go : Outcome rows x tr set now h.1 g.clock g.request g.loud v ps u clock
-          → ((last' : ℕ) (r' : StunRequestState) → request_of (lookup x u.requests) ≡ some r' → Loud last' r'
+          → ((last' : ℕ) (r' : StunRequestState) → request_of (lookup x u.requests) ≡ Some r' → Loud last' r'
           → Closed rows x u ts (sends_from tr r' last' (rounds ss)) (list_of (end_from tr r' last' (rounds ss))))
           → Closed rows x w ((as' ++ ps) ++ ts) (sends_from tr r last (now ∷ rounds ss)) (list_of (end_from tr r last (now ∷ rounds ss)))
       go (stayed {clock = c} t l e k) ih =

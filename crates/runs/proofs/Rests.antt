@@ -3,12 +3,12 @@
 --     wait_positive                  where neither initial nor maximum is zero, no wait is
 --     Rested, rested                 a request that a transmission has passed by isn't due, unless it is silent and has a wait of zero
 --     Staying, staying               one that a poll has passed by
+use Rattle.std.specs.Prelude.{Some, slice_get}
 use Prim.Native.Nat.{ℕ, zero, suc, ◌<◌}
 use mathlib.Core.Path.{◌≡◌, refl, sym, ◌∙◌}
 use mathlib.Core.Bool.{Bool, true, false, cond, not, ◌&&◌, ◌||◌}
 use mathlib.Core.List.{List, [], ◌∷◌}
-use mathlib.Core.Option.{some}
-use lib.ListN.{get_elem?, set}
+use lib.ListN.{set}
 use lib.Pow.{pow_pos}
 use native.Mathlib.Nat.{mul-pos}
 use native.Mathlib.Omega.{arith}
@@ -35,7 +35,7 @@ use Rattle.runs.specs.Last.{All, Positive}
 -- ---- a property of each request
 
 module _ (P : StunRequestState → Type 0) where
-  pub all_at : (l : List StunRequestState) (i : ℕ) (r : StunRequestState) → All P l → get_elem? l i ≡ some r → P r
+  pub all_at : (l : List StunRequestState) (i : ℕ) (r : StunRequestState) → All P l → slice_get l i ≡ Some r → P r
   all_at [] i r h e = none_some e
   all_at (q ∷ qs) zero r h e = rw (some_same e) at h.0
   all_at (q ∷ qs) (suc i) r h e = all_at qs i r h.1 e

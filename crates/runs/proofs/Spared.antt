@@ -6,11 +6,13 @@
 --     Silent                        such a run neither sends x nor reports it, nor is x outstanding after it
 --     ended_other                   a poll that reports another request
 --     scan_said                     a transmission or a poll that isn't refused
-use Prim.Native.Nat.{ℕ, zero, suc, ◌+◌}
+use Rattle.model.specs.declared.Refusal.{Refusal}
+use Rattle.std.specs.Prelude.{Option, None, Some}
+use Rattle.message.specs.declared.Message.{Message}
+use Prim.Native.Nat.{ℕ, ◌+◌}
 use mathlib.Core.Path.{◌≡◌, refl, sym, ap, ◌∙◌}
 use mathlib.Core.Bool.{Bool, true, false, cond, ◌&&◌}
 use mathlib.Core.List.{List, [], ◌∷◌}
-use mathlib.Core.Option.{none}
 use lib.Dec.{eqb}
 use lib.ListN.{length, set}
 use borrow.Author.Tests.{eqb-false, ne_eqb}
@@ -18,8 +20,6 @@ use Rattle.address.specs.declared.Address.{Address}
 use Rattle.message.specs.Head.{key}
 use Rattle.message.specs.Attributes.{message_of}
 use Rattle.message.specs.declared.TransactionId.{TransactionId}
-use Rattle.message.specs.declared.Parsed.{Parsed}
-use Rattle.message.specs.declared.Parsed.TheVariants.{Good, Bad}
 use Rattle.waits.specs.declared.Transport.{Transport}
 use Rattle.request.specs.Request.{silenced, cancelled, configured}
 use Rattle.request.specs.Kept.{SameRequest}
@@ -29,10 +29,6 @@ use Rattle.request.specs.declared.StunRequestPollRet.TheVariants as poll-ret
 use Rattle.request.proofs.Kept.{submission, same_silenced, same_cancelled, same_configured}
 use Rattle.requests.specs.Search.{key_of, lookup, request_of}
 use Rattle.requests.specs.Scan.{hour, walk, poll_all}
-use Rattle.requests.specs.declared.Found.{Found}
-use Rattle.requests.specs.declared.Found.TheVariants.{At, Nothing}
-use Rattle.requests.specs.declared.Transmitted.{Transmitted}
-use Rattle.requests.specs.declared.Transmitted.TheVariants.{Sends, Quiet}
 use Rattle.requests.specs.declared.Polled.{Polled}
 use Rattle.requests.specs.declared.Polled.TheVariants.{TimedOut, Cancelled, WaitUntil}
 use Rattle.requests.proofs.Lists.{apart, none_some}
@@ -61,50 +57,50 @@ pub record Spared (rows x : ℕ) (w : World) (k : Kind) (b : List ℕ) : Type 0 
   pub untimed : timeouts_by x k (says_of rows w k b).answer ≡ []
 
 -- a refused call sends and reports nothing
-refused_unsent : (x n : ℕ) (k : Kind) → sends_by x k (answer.Refused n) ≡ []
-refused_unsent x n (carries (submits to now)) = refl
-refused_unsent x n (carries (sends_other to)) = refl
-refused_unsent x n (carries (receives from clock)) = refl
-refused_unsent x n (scans transmits now) = refl
-refused_unsent x n (scans reports now) = refl
-refused_unsent x n (names id wish) = refl
-refused_unsent x n (meets a m) = refl
-refused_unsent x n (counts f) = refl
+refused_unsent : (x : ℕ) (q : Refusal) (k : Kind) → sends_by x k (answer.Refused q) ≡ []
+refused_unsent x q (carries (submits to now)) = refl
+refused_unsent x q (carries (sends_other to)) = refl
+refused_unsent x q (carries (receives from clock)) = refl
+refused_unsent x q (scans transmits now) = refl
+refused_unsent x q (scans reports now) = refl
+refused_unsent x q (names id wish) = refl
+refused_unsent x q (meets a m) = refl
+refused_unsent x q (counts f) = refl
 
-refused_untimed : (x n : ℕ) (k : Kind) → timeouts_by x k (answer.Refused n) ≡ []
-refused_untimed x n (carries p) = refl
-refused_untimed x n (scans transmits now) = refl
-refused_untimed x n (scans reports now) = refl
-refused_untimed x n (names id wish) = refl
-refused_untimed x n (meets a m) = refl
-refused_untimed x n (counts f) = refl
+refused_untimed : (x : ℕ) (q : Refusal) (k : Kind) → timeouts_by x k (answer.Refused q) ≡ []
+refused_untimed x q (carries p) = refl
+refused_untimed x q (scans transmits now) = refl
+refused_untimed x q (scans reports now) = refl
+refused_untimed x q (names id wish) = refl
+refused_untimed x q (meets a m) = refl
+refused_untimed x q (counts f) = refl
 
-refused_spares : (rows x : ℕ) (w : World) (k : Kind) (b : List ℕ) (n : ℕ) → refusal_of rows w k b ≡ suc n → Spared rows x w k b
-refused_spares rows x w k b n e = record {
-  kept = rw (refused_same rows w k b n e);
-  unsent = rw (refused_same rows w k b n e) (refused_unsent x (suc n) k);
-  untimed = rw (refused_same rows w k b n e) (refused_untimed x (suc n) k);
+refused_spares : (rows x : ℕ) (w : World) (k : Kind) (b : List ℕ) (q : Refusal) → refusal_of rows w k b ≡ Some q → Spared rows x w k b
+refused_spares rows x w k b q e = record {
+  kept = rw (refused_same rows w k b q e);
+  unsent = rw (refused_same rows w k b q e) (refused_unsent x q k);
+  untimed = rw (refused_same rows w k b q e) (refused_untimed x q k);
 }
 
 -- a response to another request, or one that isn't accepted
-received_keeps : (x : ℕ) (t : Transport) (l : List StunRequestState) (from : Address) (p : Parsed) → on_message p false (answers_to x l from) ≡ false
+received_keeps : (x : ℕ) (t : Transport) (l : List StunRequestState) (from : Address) (p : Option Message) → on_message p false (answers_to x l from) ≡ false
     → request_of (lookup x (changed t (on_message p keeps (answered l from)) l)) ≡ request_of (lookup x l)
-received_keeps x t l from Bad h = refl
-received_keeps x t l from (Good y) h = go (accepts l from y) (is_response y.class) (lookup (key y.transaction_id) l) refl h
+received_keeps x t l from None h = refl
+received_keeps x t l from (Some y) h = go (accepts l from y) (is_response y.class) (lookup (key y.transaction_id) l) refl h
   where
-    go : (a r : Bool) (f : Found) → lookup (key y.transaction_id) l ≡ f → (a && (r && eqb (key y.transaction_id) x)) ≡ false
+    go : (a r : Bool) (f : Option (ℕ × StunRequestState)) → lookup (key y.transaction_id) l ≡ f → (a && (r && eqb (key y.transaction_id) x)) ≡ false
         → request_of (lookup x (changed t (cond a (cond r (taken f) keeps) keeps) l)) ≡ request_of (lookup x l)
     go false r f e h = refl
     go true false f e h = refl
-    go true true Nothing e h = refl
-    go true true (At i q) e h = lookup_taken_other (key y.transaction_id) i q l e x (λ z. eqb-false (key y.transaction_id) x h (sym z))
+    go true true None e h = refl
+    go true true (Some (i, q)) e h = lookup_taken_other (key y.transaction_id) i q l e x (λ z. eqb-false (key y.transaction_id) x h (sym z))
 
 -- a wish for another request
-wish_keeps : (x : ℕ) (t : Transport) (l : List StunRequestState) (id : TransactionId) (wish : Wish) (f : Found) → lookup (key id) l ≡ f
+wish_keeps : (x : ℕ) (t : Transport) (l : List StunRequestState) (id : TransactionId) (wish : Wish) (f : Option (ℕ × StunRequestState)) → lookup (key id) l ≡ f
     → (alters wish && eqb (key id) x) ≡ false
     → request_of (lookup x (changed t (on_found f keeps (wished wish)) l)) ≡ request_of (lookup x l)
-wish_keeps x t l id wish Nothing e h = refl
-wish_keeps x t l id wish (At i r) e h = go wish h
+wish_keeps x t l id wish None e h = refl
+wish_keeps x t l id wish (Some (i, r)) e h = go wish h
   where
     other : (q : StunRequestState) → SameRequest r q → eqb (key id) x ≡ false → lookup x (set l i q) ≡ lookup x l
     other q s h =
@@ -117,7 +113,7 @@ wish_keeps x t l id wish (At i r) e h = go wish h
     go query h = refl
 
 module _ (rows x : ℕ) (w : World) (formed : StateFormed rows w) where
-  pub passed_spares : (k : Kind) (b : List ℕ) → is_scan k ≡ false → refusal_of rows w k b ≡ 0 → handles x w k b ≡ false → Spared rows x w k b
+  pub passed_spares : (k : Kind) (b : List ℕ) → is_scan k ≡ false → refusal_of rows w k b ≡ None → handles x w k b ≡ false → Spared rows x w k b
   passed_spares (carries (submits to now)) b n e h =
       let a = request_accepted rows w to now b formed e in
       let y = a.message in
@@ -148,16 +144,16 @@ module _ (rows x : ℕ) (w : World) (formed : StateFormed rows w) where
   pub others_spare : (t : Turn) → is_scan (kind_in t) ≡ false → handled_by rows x w t ≡ false → Spared rows x w (kind_in t) t.bytes
   others_spare t n h = go (refusal_of rows w (kind_in t) t.bytes) refl
     where
-      go : (r : ℕ) → refusal_of rows w (kind_in t) t.bytes ≡ r → Spared rows x w (kind_in t) t.bytes
-      go zero e = passed_spares (kind_in t) t.bytes n e (rw e at h)
-      go (suc r) e = refused_spares rows x w (kind_in t) t.bytes r e
+      go : (o : Option Refusal) → refusal_of rows w (kind_in t) t.bytes ≡ o → Spared rows x w (kind_in t) t.bytes
+      go None e = passed_spares (kind_in t) t.bytes n e (rw e at h)
+      go (Some q) e = refused_spares rows x w (kind_in t) t.bytes q e
 
 -- a transmission or a poll that isn't refused: its answer, and the requests after it
 pub record ScanSaid (rows : ℕ) (w : World) (s : Scan) (now : ℕ) (b : List ℕ) : Type 0 where
   pub answers : (says_of rows w (scans s now) b).answer ≡ scan_answer w s now
   pub requests : (says_of rows w (scans s now) b).world.requests ≡ changed w.agent.transport (scan_change w s now) w.requests
 
-pub scan_said : (rows : ℕ) (w : World) (s : Scan) (now : ℕ) (b : List ℕ) → refusal_of rows w (scans s now) b ≡ 0 → ScanSaid rows w s now b
+pub scan_said : (rows : ℕ) (w : World) (s : Scan) (now : ℕ) (b : List ℕ) → refusal_of rows w (scans s now) b ≡ None → ScanSaid rows w s now b
 scan_said rows w transmits now b e =
     let d = done rows w (scans transmits now) b e in
     record { answers = d.answer ∙ answer_transmits rows w b now; requests = rw (← change_transmits rows w b now) d.requests }
@@ -167,20 +163,20 @@ scan_said rows w reports now b e =
 
 -- ---- x isn't outstanding
 
-pub not_found : (f : Found) → request_of f ≡ none → f ≡ Nothing
-not_found (At i r) e = none_some (sym e)
-not_found Nothing e = refl
+pub not_found : (f : Option (ℕ × StunRequestState)) → request_of f ≡ None → f ≡ None
+not_found (Some (i, r)) e = none_some (sym e)
+not_found None e = refl
 
-quiet_of : (x now : ℕ) (o : Transmitted) → OtherKey x o → noted (hands_out_it x (transmit_answer o)) now ≡ []
-quiet_of x now (Sends p) n = rw (ne_eqb (key_of p) x n)
-quiet_of x now Quiet n = refl
+quiet_of : (x now : ℕ) (o : Option StunRequestState) → OtherKey x o → noted (hands_out_it x (transmit_answer o)) now ≡ []
+quiet_of x now (Some p) n = rw (ne_eqb (key_of p) x n)
+quiet_of x now None n = refl
 
 -- the request that ended is another one
 pub ended_other : (x : ℕ) (t : Transport) (now : ℕ) (l : List StunRequestState) (i : ℕ) (id : TransactionId) (a : StunRequestPollRet)
     → (key id ≡ x → ⊥) → Ended t now l i id a → request_of (lookup x (changed t (removes i) l)) ≡ request_of (lookup x l)
 ended_other x t now l i id a n s = lookup_removed_other x i s.request l s.placed (λ z. n (ap key (sym s.id_is) ∙ z))
 
-absent_poll : (x : ℕ) (t : Transport) (now : ℕ) (l : List StunRequestState) → lookup x l ≡ Nothing → (o : Polled) → Says t now (now + hour) l o
+absent_poll : (x : ℕ) (t : Transport) (now : ℕ) (l : List StunRequestState) → lookup x l ≡ None → (o : Polled) → Says t now (now + hour) l o
     → (request_of (lookup x (changed t (reported o) l)) ≡ request_of (lookup x l)) × (noted (times_out_it x (poll_answer o)) now ≡ [])
 absent_poll x t now l e (TimedOut i id) s =
     let n = poll_none t now l x i id poll-ret.TimedOut e s in
@@ -188,8 +184,8 @@ absent_poll x t now l e (TimedOut i id) s =
 absent_poll x t now l e (Cancelled i id) s = (ended_other x t now l i id poll-ret.Cancelled (poll_none t now l x i id poll-ret.Cancelled e s) s, refl)
 absent_poll x t now l e (WaitUntil clock) s = (refl, refl)
 
-module _ (rows x : ℕ) (w : World) (gone : request_of (lookup x w.requests) ≡ none) where
-  absent_scan : (s : Scan) (now : ℕ) (b : List ℕ) → refusal_of rows w (scans s now) b ≡ 0 → Spared rows x w (scans s now) b
+module _ (rows x : ℕ) (w : World) (gone : request_of (lookup x w.requests) ≡ None) where
+  absent_scan : (s : Scan) (now : ℕ) (b : List ℕ) → refusal_of rows w (scans s now) b ≡ None → Spared rows x w (scans s now) b
   absent_scan transmits now b e =
       let s = scan_said rows w transmits now b e in
       let z = transmit_none w.agent.transport now w.requests x (not_found (lookup x w.requests) gone) in
@@ -207,9 +203,9 @@ module _ (rows x : ℕ) (w : World) (gone : request_of (lookup x w.requests) ≡
   absent_kind f t h (carries p) e = others_spare rows x w f t (rw e) h
   absent_kind f t h (scans s now) e = rw e (go (refusal_of rows w (scans s now) t.bytes) refl)
     where
-      go : (r : ℕ) → refusal_of rows w (scans s now) t.bytes ≡ r → Spared rows x w (scans s now) t.bytes
-      go zero r = absent_scan s now t.bytes r
-      go (suc n) r = refused_spares rows x w (scans s now) t.bytes n r
+      go : (o : Option Refusal) → refusal_of rows w (scans s now) t.bytes ≡ o → Spared rows x w (scans s now) t.bytes
+      go None r = absent_scan s now t.bytes r
+      go (Some q) r = refused_spares rows x w (scans s now) t.bytes q r
   absent_kind f t h (names id wish) e = others_spare rows x w f t (rw e) h
   absent_kind f t h (meets a m) e = others_spare rows x w f t (rw e) h
   absent_kind f t h (counts g) e = others_spare rows x w f t (rw e) h
@@ -217,9 +213,9 @@ module _ (rows x : ℕ) (w : World) (gone : request_of (lookup x w.requests) ≡
 pub record Silent (rows x : ℕ) (w : World) (ts : List Turn) : Type 0 where
   pub unsent : sends rows x w ts ≡ []
   pub untimed : timeouts rows x w ts ≡ []
-  pub gone : request_of (lookup x (run rows w ts).requests) ≡ none
+  pub gone : request_of (lookup x (run rows w ts).requests) ≡ None
 
-pub absent_run : (rows x : ℕ) (w : World) (ts : List Turn) → StateFormed rows w → LeftAlone rows x w ts → request_of (lookup x w.requests) ≡ none → Silent rows x w ts
+pub absent_run : (rows x : ℕ) (w : World) (ts : List Turn) → StateFormed rows w → LeftAlone rows x w ts → request_of (lookup x w.requests) ≡ None → Silent rows x w ts
 unfolding sends timeouts
 absent_run rows x w [] f h g = record { unsent = refl; untimed = refl; gone = g }
 absent_run rows x w (t ∷ ts) f h g =

@@ -4,11 +4,13 @@
 --     ok_transmits, ok_round, transmits_world, polls_world, round_world      the world after a round or a part of it
 --     Reaches, reaches          the world after the first steps of a run, and the clocks to come
 --     never_append, never_call, never_bad      from such a world no call is refused by 1 or 3
-use Prim.Native.Nat.{ℕ, zero, suc, ◌^◌, ◌≤◌}
+use Rattle.model.specs.declared.Refusal.{Refusal}
+use Rattle.model.specs.declared.Refusal.TheVariants.{Clock}
+use Rattle.std.specs.Prelude.{Option, None, Some}
+use Prim.Native.Nat.{ℕ, ◌^◌, ◌≤◌}
 use mathlib.Core.Path.{◌≡◌, refl, sym, ◌∙◌}
 use mathlib.Core.Bool.{false, ◌||◌}
 use mathlib.Core.List.{List, [], ◌∷◌, ◌++◌}
-use mathlib.Core.Option.{Option, none, some}
 use lib.Dec.{ltb}
 use borrow.Author.Tests.{le-ltb}
 use native.Mathlib.Omega.{arith}
@@ -17,7 +19,7 @@ use Rattle.waits.specs.declared.Transport.{Transport}
 use Rattle.requests.proofs.Lists.{apart}
 use Rattle.model.specs.World.{World, StateFormed}
 use Rattle.model.specs.Calls.{Kind, clock_of, on_some}
-use Rattle.model.specs.Refusals.{CLOCK, number_of, refusal_of}
+use Rattle.model.specs.Refusals.{refusal_of}
 use Rattle.model.specs.Effects.{mark_after}
 use Rattle.model.specs.Says.{says_of}
 use Rattle.model.specs.Runs.{Turn, run}
@@ -37,16 +39,16 @@ pub record Ok (rows : ℕ) (tr : Transport) (set : RequestRto) (m : ℕ) (w : Wo
 -- a clock that isn't refused
 clock_fine : (mark : ℕ) (c : Option ℕ) (m : ℕ) → mark ≤ m → SteadyAt c m (λ u. Unit {0})
     → on_some c false (λ now. ltb (2 ^ 60) now || ltb now mark) ≡ false
-clock_fine mark none m l h = refl
-clock_fine mark (some t) m l h = rw (le-ltb (2 ^ 60) t h.1, le-ltb t mark (omega (arith, h.0)))
+clock_fine mark None m l h = refl
+clock_fine mark (Some t) m l h = rw (le-ltb (2 ^ 60) t h.1, le-ltb t mark (omega (arith, h.0)))
 
 module _ (rows : ℕ) (tr : Transport) (set : RequestRto) where
   mark_said : (w : World) (k : Kind) (b : List ℕ) (u : ℕ) → w.agent.mark ≤ u → mark_after w k ≤ u → (says_of rows w k b).world.agent.mark ≤ u
   mark_said w k b u l h = go (refusal_of rows w k b) refl
     where
-      go : (n : ℕ) → refusal_of rows w k b ≡ n → (says_of rows w k b).world.agent.mark ≤ u
-      go zero e = rw (done rows w k b e).agent h
-      go (suc n) e = rw (refused_same rows w k b n e) l
+      go : (o : Option Refusal) → refusal_of rows w k b ≡ o → (says_of rows w k b).world.agent.mark ≤ u
+      go None e = rw (done rows w k b e).agent h
+      go (Some q) e = rw (refused_same rows w k b q e) l
 
   pub ok_said : (m u : ℕ) (w : World) (k : Kind) (b : List ℕ) → Ok rows tr set m w → m ≤ u → mark_after w k ≤ u → Ok rows tr set u (says_of rows w k b).world
   ok_said m u w k b o l h =
@@ -68,8 +70,8 @@ module _ (rows : ℕ) (tr : Transport) (set : RequestRto) where
   next_ok m t w K o h = go (clock_of (kind_in t)) refl h
     where
       go : (c : Option ℕ) → clock_of (kind_in t) ≡ c → SteadyAt c m K → Next t w K
-      go none e h = record { floor = m; ok = ok_said m m w (kind_in t) t.bytes o (omega arith) (rw e o.mark); steady = h }
-      go (some u) e h = record { floor = u; ok = ok_said m u w (kind_in t) t.bytes o h.0 (rw e (omega arith)); steady = h.2 }
+      go None e h = record { floor = m; ok = ok_said m m w (kind_in t) t.bytes o (omega arith) (rw e o.mark); steady = h }
+      go (Some u) e h = record { floor = u; ok = ok_said m u w (kind_in t) t.bytes o h.0 (rw e (omega arith)); steady = h.2 }
 
 -- a run in two parts
 pub run_append : (rows : ℕ) (w : World) (rs bs : List Turn) → run rows w (rs ++ bs) ≡ run rows (run rows w rs) bs
@@ -122,16 +124,16 @@ never_append rows w [] bs a b = b
 never_append rows w (t ∷ rs) bs a b = (a.0, a.1, never_append rows (said rows w t).world rs bs a.2 b)
 
 module _ (rows : ℕ) (tr : Transport) (set : RequestRto) (m : ℕ) (w : World) (t : Turn) (o : Ok rows tr set m w) where
-  not_clock : SteadyAt (clock_of (kind_in t)) m (λ u. Unit {0}) → refusal_of rows w (kind_in t) t.bytes ≡ number_of CLOCK → ⊥
+  not_clock : SteadyAt (clock_of (kind_in t)) m (λ u. Unit {0}) → refusal_of rows w (kind_in t) t.bytes ≡ Some Clock → ⊥
   not_clock h e =
-      apart (sym ((refused_exactly rows w (kind_in t) t.bytes CLOCK).0 e).0 ∙ clock_fine w.agent.mark (clock_of (kind_in t)) m o.mark h)
+      apart (sym ((refused_exactly rows w (kind_in t) t.bytes Clock).0 e).0 ∙ clock_fine w.agent.mark (clock_of (kind_in t)) m o.mark h)
 
   pub never_call : (ts : List Turn) → SteadyAt (clock_of (kind_in t)) m (λ u. Unit {0}) → NeverBad rows (said rows w t).world ts → NeverBad rows w (t ∷ ts)
   never_call ts h n = (never_state rows w (kind_in t) t.bytes o.formed, not_clock h, n)
 
 forget : (c : Option ℕ) (m : ℕ) (K : ℕ → Type 0) → SteadyAt c m K → SteadyAt c m (λ u. Unit {0})
-forget none m K h = tt
-forget (some t) m K h = (h.0, h.1, tt)
+forget None m K h = tt
+forget (Some t) m K h = (h.0, h.1, tt)
 
 module _ {rows : ℕ} {tr : Transport} {set : RequestRto} {now : ℕ} (low : now ≤ 2 ^ 60) where
   never_transmits : {w v : World} {ts : List Turn} → Transmits rows now w ts v → (m : ℕ) → m ≤ now → Ok rows tr set m w → NeverBad rows w ts

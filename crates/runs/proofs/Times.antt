@@ -3,11 +3,11 @@
 --     more_rising, next_sooner       more clocks: the next one is no later
 --     sends_no_later, end_sooner     so are the sends and the end
 --     gaps_hold, sends_few           each gap is at least its wait, and there are no more sends than are left
+use Rattle.std.specs.Prelude.{Option, None, Some}
 use Prim.Native.Nat.{ℕ, zero, suc, ◌+◌, ◌≤◌, zero-le}
 use mathlib.Core.Path.{◌≡◌, refl}
 use mathlib.Core.Bool.{Bool, true, false, cond}
 use mathlib.Core.List.{List, [], ◌∷◌}
-use mathlib.Core.Option.{Option, none, some}
 use lib.Dec.{leb}
 use lib.ListN.{length}
 use borrow.Author.Tests.{leb-true, leb-false}
@@ -20,15 +20,15 @@ use Rattle.runs.specs.Times.{next, send_times, end_time, Sooner, NoLater, Gaps, 
 
 -- not below a, if there is one
 abbrev pub From : ℕ → Option ℕ → Type 0
-From a none = Unit {0}
-From a (some t) = a ≤ t
+From a None = Unit {0}
+From a (Some t) = a ≤ t
 
 pub next_from : (ts : List ℕ) (a : ℕ) → From a (next ts a)
 unfolding next
 next_from [] a = tt
 next_from (t ∷ ts) a = go (leb a t) refl (next_from ts a)
   where
-    go : (p : Bool) → leb a t ≡ p → From a (next ts a) → From a (cond p (some t) (next ts a))
+    go : (p : Bool) → leb a t ≡ p → From a (next ts a) → From a (cond p (Some t) (next ts a))
     go true e ih = leb-true a t e
     go false e ih = ih
 
@@ -42,7 +42,7 @@ unfolding next
 next_rising [] m a h = tt
 next_rising (t ∷ ts) m a h = go (leb a t) (next_rising ts m a (rising_down m t ts h.0 h.1))
   where
-    go : (p : Bool) → From m (next ts a) → From m (cond p (some t) (next ts a))
+    go : (p : Bool) → From m (next ts a) → From m (cond p (Some t) (next ts a))
     go true ih = h.0
     go false ih = ih
 
@@ -59,18 +59,18 @@ next_sooner (both {t} {ts} {us} d) m a b h l =
     go (leb a t) refl (leb b t) refl (next ts b) (next_from ts b) (next_sooner d t a b h.1 l)
   where
     go : (p : Bool) → leb a t ≡ p → (q : Bool) → leb b t ≡ q → (o : Option ℕ) → From b o → Sooner (next us a) o
-        → Sooner (cond p (some t) (next us a)) (cond q (some t) o)
+        → Sooner (cond p (Some t) (next us a)) (cond q (Some t) o)
     go true e true e' o f ih = omega arith
-    go true e false e' none f ih = tt
-    go true e false e' (some v) f ih = omega (arith, leb-false b t e')
+    go true e false e' None f ih = tt
+    go true e false e' (Some v) f ih = omega (arith, leb-false b t e')
     go false e true e' o f ih = absurd (omega (arith, leb-false a t e, leb-true b t e'))
     go false e false e' o f ih = ih
 next_sooner (added {u} {ts} {us} d) m a b h l =
     go (leb a u) (next ts b) (next_rising ts u b (more_rising d u h.1)) (next_sooner d u a b h.1 l)
   where
-    go : (p : Bool) (o : Option ℕ) → From u o → Sooner (next us a) o → Sooner (cond p (some u) (next us a)) o
-    go true none f ih = tt
-    go true (some v) f ih = f
+    go : (p : Bool) (o : Option ℕ) → From u o → Sooner (next us a) o → Sooner (cond p (Some u) (next us a)) o
+    go true None f ih = tt
+    go true (Some v) f ih = f
     go false o f ih = ih
 
 module _ (tr : Transport) (s : RequestRto) {ts us : List ℕ} (d : More ts us) (m : ℕ) (up : Rising m us) where
@@ -85,9 +85,9 @@ module _ (tr : Transport) (s : RequestRto) {ts us : List ℕ} (d : More ts us) (
           → ((l l' : ℕ) → l' ≤ l → NoLater (send_times s k (suc c) l' us) (send_times s k (suc c) l ts))
           → NoLater (on_some o' [] (λ t. t ∷ send_times s k (suc c) t us))
           (on_some o [] (λ t. t ∷ send_times s k (suc c) t ts))
-      go o' none q ih = tt
-      go none (some t) q ih = absurd q
-      go (some u) (some t) q ih = (q, ih t u q)
+      go o' None q ih = tt
+      go None (Some t) q ih = absurd q
+      go (Some u) (Some t) q ih = (q, ih t u q)
 
   pub end_sooner : (k c l l' : ℕ) → l' ≤ l → Sooner (end_time tr s k c l' us) (end_time tr s k c l ts)
   unfolding end_time
@@ -98,10 +98,10 @@ module _ (tr : Transport) (s : RequestRto) {ts us : List ℕ} (d : More ts us) (
     where
       go : (o' o : Option ℕ) → Sooner o' o
           → ((l l' : ℕ) → l' ≤ l → Sooner (end_time tr s k (suc c) l' us) (end_time tr s k (suc c) l ts))
-          → Sooner (on_some o' none (λ t. end_time tr s k (suc c) t us)) (on_some o none (λ t. end_time tr s k (suc c) t ts))
-      go o' none q ih = tt
-      go none (some t) q ih = absurd q
-      go (some u) (some t) q ih = ih t u q
+          → Sooner (on_some o' None (λ t. end_time tr s k (suc c) t us)) (on_some o None (λ t. end_time tr s k (suc c) t ts))
+      go o' None q ih = tt
+      go None (Some t) q ih = absurd q
+      go (Some u) (Some t) q ih = ih t u q
 
 pub gaps_hold : (s : RequestRto) (ts : List ℕ) (k c l : ℕ) → Gaps s c l (send_times s k c l ts)
 unfolding send_times
@@ -110,8 +110,8 @@ gaps_hold s ts (suc k) c l = go (next ts (l + wait_of s c)) (next_from ts (l + w
   where
     go : (o : Option ℕ) → From (l + wait_of s c) o → ((l : ℕ) → Gaps s (suc c) l (send_times s k (suc c) l ts))
         → Gaps s c l (on_some o [] (λ t. t ∷ send_times s k (suc c) t ts))
-    go none f ih = tt
-    go (some t) f ih = (f, ih t)
+    go None f ih = tt
+    go (Some t) f ih = (f, ih t)
 
 pub sends_few : (s : RequestRto) (ts : List ℕ) (k c l : ℕ) → length (send_times s k c l ts) ≤ k
 unfolding send_times
@@ -120,5 +120,5 @@ sends_few s ts (suc k) c l = go (next ts (l + wait_of s c)) (sends_few s ts k (s
   where
     go : (o : Option ℕ) → ((l : ℕ) → length (send_times s k (suc c) l ts) ≤ k)
         → length {A = ℕ} (on_some o [] (λ t. t ∷ send_times s k (suc c) t ts)) ≤ suc k
-    go none ih = zero-le
-    go (some t) ih = omega (arith, ih t)
+    go None ih = zero-le
+    go (Some t) ih = omega (arith, ih t)

@@ -1,8 +1,8 @@
 -- Demand 3 whole: the closed forms of two runs compared, and the last sentence.
 --     demand3     the theorem
+use Rattle.std.specs.Prelude.{Option, None, Some}
 use Prim.Native.Nat.{ℕ}
 use mathlib.Core.List.{List}
-use mathlib.Core.Option.{Option, none, some}
 use native.Mathlib.Omega.{arith}
 use Rattle.waits.specs.Waits.{waits_of}
 use Rattle.model.specs.Runs.{Turn}
@@ -15,9 +15,9 @@ use Rattle.runs.proofs.Demand.{more_clocks, steady_rising, post_steady, closed_f
 use Rattle.runs.proofs.Last.{last_sentence}
 
 sooner_list : (o' o : Option ℕ) → Sooner o' o → NoLater (list_of o') (list_of o)
-sooner_list o' none h = tt
-sooner_list none (some t) h = h
-sooner_list (some u) (some t) h = (h, tt)
+sooner_list o' None h = tt
+sooner_list None (Some t) h = h
+sooner_list (Some u) (Some t) h = (h, tt)
 
 -- The second run is the first with more rounds; that it is so before the submission too isn't needed.
 pub demand3 : (rows x : ℕ) (s : Start) (q : Submission) (pre post pre' post' : List Step) (before later before' later' : List Turn)

@@ -1,12 +1,11 @@
 -- What an answer says to the host: that a message was accepted, which request it hands out, and which it reports.
-use Rattle.std.specs.Prelude.{ℕ, Bool, true, false}
-use Rattle.std.proofs.Math.Option.{Option, none, some}
+use Rattle.std.specs.Prelude.{ℕ, Bool, true, false, Option, None, Some}
 use Rattle.message.specs.declared.TransactionId.{TransactionId}
 use Rattle.model.specs.declared.Answer.{Answer}
 use Rattle.model.specs.declared.Answer.TheVariants as answer
 
 abbrev pub is_yes : Answer → Bool
-is_yes (answer.Refused n) = false
+is_yes (answer.Refused q) = false
 is_yes answer.Ok = false
 is_yes answer.Yes = true
 is_yes answer.No = false
@@ -22,7 +21,7 @@ is_yes (answer.Request to integrity) = false
 
 -- A choice by the transmission that an answer hands out: identifier, row and length.
 abbrev pub on_transmission : {B : Type 0} → Answer → B → (TransactionId → ℕ → ℕ → B) → B
-on_transmission (answer.Refused n) b f = b
+on_transmission (answer.Refused q) b f = b
 on_transmission answer.Ok b f = b
 on_transmission answer.Yes b f = b
 on_transmission answer.No b f = b
@@ -38,32 +37,32 @@ on_transmission (answer.Request to integrity) b f = b
 
 -- The request that is reported timed out.
 abbrev pub timed_out_in : Answer → Option TransactionId
-timed_out_in (answer.Refused n) = none
-timed_out_in answer.Ok = none
-timed_out_in answer.Yes = none
-timed_out_in answer.No = none
-timed_out_in answer.None = none
-timed_out_in (answer.Send id to row len) = none
-timed_out_in (answer.Wait clock) = none
-timed_out_in (answer.TimedOut id) = some id
-timed_out_in (answer.Cancelled id) = none
-timed_out_in (answer.Stats s) = none
-timed_out_in (answer.Average a) = none
-timed_out_in (answer.Outstanding n) = none
-timed_out_in (answer.Request to integrity) = none
+timed_out_in (answer.Refused q) = None
+timed_out_in answer.Ok = None
+timed_out_in answer.Yes = None
+timed_out_in answer.No = None
+timed_out_in answer.None = None
+timed_out_in (answer.Send id to row len) = None
+timed_out_in (answer.Wait clock) = None
+timed_out_in (answer.TimedOut id) = Some id
+timed_out_in (answer.Cancelled id) = None
+timed_out_in (answer.Stats s) = None
+timed_out_in (answer.Average a) = None
+timed_out_in (answer.Outstanding n) = None
+timed_out_in (answer.Request to integrity) = None
 
 -- The request that is reported cancelled.
 abbrev pub cancelled_in : Answer → Option TransactionId
-cancelled_in (answer.Refused n) = none
-cancelled_in answer.Ok = none
-cancelled_in answer.Yes = none
-cancelled_in answer.No = none
-cancelled_in answer.None = none
-cancelled_in (answer.Send id to row len) = none
-cancelled_in (answer.Wait clock) = none
-cancelled_in (answer.TimedOut id) = none
-cancelled_in (answer.Cancelled id) = some id
-cancelled_in (answer.Stats s) = none
-cancelled_in (answer.Average a) = none
-cancelled_in (answer.Outstanding n) = none
-cancelled_in (answer.Request to integrity) = none
+cancelled_in (answer.Refused q) = None
+cancelled_in answer.Ok = None
+cancelled_in answer.Yes = None
+cancelled_in answer.No = None
+cancelled_in answer.None = None
+cancelled_in (answer.Send id to row len) = None
+cancelled_in (answer.Wait clock) = None
+cancelled_in (answer.TimedOut id) = None
+cancelled_in (answer.Cancelled id) = Some id
+cancelled_in (answer.Stats s) = None
+cancelled_in (answer.Average a) = None
+cancelled_in (answer.Outstanding n) = None
+cancelled_in (answer.Request to integrity) = None

@@ -1,8 +1,7 @@
 -- What the ten counters mean: over a run from a fresh agent with statistics on and without a reset, each is a count or a sum over the
 -- run's calls and answers, refused calls included, stopped at 2^64-1. Document 01, "What the statements have to shut out": "invented
 -- counters (each is a count over the calls)". The definitions read calls, messages and answers; none reads the statistics record.
-use Rattle.std.specs.Prelude.{ℕ, ◌+◌, ◌-◌, ◌^◌, min, ◌≡◌, Bool, true, false, cond, ◌&&◌, List, [], ◌∷◌, eqb, length}
-use Rattle.std.proofs.Math.Option.{Option, none}
+use Rattle.std.specs.Prelude.{ℕ, ◌+◌, ◌-◌, ◌^◌, min, ◌≡◌, Bool, true, false, cond, ◌&&◌, List, [], ◌∷◌, length, Option, None, is_none}
 use Rattle.message.specs.Attributes.{message_of}
 use Rattle.message.specs.declared.TransactionId.{TransactionId}
 use Rattle.message.specs.declared.MessageClass.{MessageClass}
@@ -12,7 +11,7 @@ use Rattle.model.specs.World.{World}
 use Rattle.model.specs.Calls.{Passage, submits, sends, receives, transmits, reports, Figure, numbers, mean, unsettled, anew, Kind, carries, scans, names, meets, counts, passage_of, figure_of, on_some}
 use Rattle.model.specs.Accepts.{on_message, is_response}
 use Rattle.model.specs.Refusals.{is_request}
-use Rattle.model.specs.Says.{number_in}
+use Rattle.model.specs.Says.{refused_by}
 use Rattle.model.specs.Runs.{Turn}
 use Rattle.model.specs.declared.Answer.{Answer}
 use Rattle.runs.specs.Answers.{is_yes, on_transmission, timed_out_in, cancelled_in}
@@ -46,7 +45,7 @@ length_out a = on_transmission a 0 (λ id row len. len)
 -- The call sent its message: `send_request` that answered with the first transmission, `send` that wasn't refused.
 abbrev pub passage_sent : Passage → Answer → Bool
 passage_sent (submits to now) a = hands_out a
-passage_sent (sends to) a = eqb (number_in a) 0
+passage_sent (sends to) a = is_none (refused_by a)
 passage_sent (receives from clock) a = false
 
 abbrev pub sent : Exchange → Bool
@@ -96,12 +95,12 @@ indications_received e = one (received e && classed is_indication e)
 
 -- What `poll` reports, and what `poll_transmit` hands out.
 abbrev pub report_by : (Answer → Option TransactionId) → Kind → Answer → Option TransactionId
-report_by read (carries p) a = none
-report_by read (scans transmits now) a = none
+report_by read (carries p) a = None
+report_by read (scans transmits now) a = None
 report_by read (scans reports now) a = read a
-report_by read (names id wish) a = none
-report_by read (meets addr m) a = none
-report_by read (counts f) a = none
+report_by read (names id wish) a = None
+report_by read (meets addr m) a = None
+report_by read (counts f) a = None
 
 abbrev pub resent_by : Kind → Answer → ℕ
 resent_by (carries p) a = 0

@@ -1,11 +1,10 @@
 -- Demand 3: the words of its hypotheses, and what it says of each run.
-use Rattle.std.specs.Prelude.{ℕ, ◌*◌, ◌^◌, ◌≤◌, max, ◌≡◌, Bool, false, List, [], ◌∷◌, ◌++◌, length}
-use Rattle.std.proofs.Math.Option.{Option, none, some}
+use Rattle.model.specs.declared.Refusal.TheVariants.{State, Clock}
+use Rattle.std.specs.Prelude.{ℕ, ◌*◌, ◌^◌, ◌≤◌, max, ◌≡◌, Bool, false, List, [], ◌∷◌, ◌++◌, length, Option, None, Some}
 use Rattle.address.specs.declared.Address.{Address}
 use Rattle.message.specs.Head.{key}
 use Rattle.message.specs.Attributes.{message_of}
 use Rattle.message.specs.declared.Message.{Message}
-use Rattle.message.specs.declared.Parsed.TheVariants.{Good}
 use Rattle.waits.specs.Waits.{Limits, waits_of}
 use Rattle.waits.specs.declared.RequestRto.{RequestRto}
 use Rattle.waits.specs.declared.Transport.{Transport}
@@ -13,7 +12,7 @@ use Rattle.waits.specs.declared.Transport.TheVariants.{Udp, Tcp}
 use Rattle.stats.specs.declared.StunAgentStats.{StunAgentStats}
 use Rattle.model.specs.World.{World}
 use Rattle.model.specs.Calls.{clock_of}
-use Rattle.model.specs.Refusals.{STATE, CLOCK, number_of, refusal_of}
+use Rattle.model.specs.Refusals.{refusal_of}
 use Rattle.model.specs.Fresh.{fresh}
 use Rattle.model.specs.Runs.{Turn, with, run}
 use Rattle.model.specs.declared.Call.TheVariants as call
@@ -23,12 +22,12 @@ use Rattle.runs.specs.Times.{send_times, end_time, Gaps, list_of}
 
 -- After clock m a step with clock c, if it has one, and then K of the clock reached.
 abbrev pub SteadyAt : Option ℕ → ℕ → (ℕ → Type 0) → Type 0
-SteadyAt none m K = K m
-SteadyAt (some t) m K = (m ≤ t) × (t ≤ 2 ^ 60) × K t
+SteadyAt None m K = K m
+SteadyAt (Some t) m K = (m ≤ t) × (t ≤ 2 ^ 60) × K t
 
 abbrev pub step_clock : Step → Option ℕ
 step_clock (calls t) = clock_of (kind_in t)
-step_clock (plays now) = some now
+step_clock (plays now) = Some now
 
 -- "Clocks never falling nor above 2^60", from m on.
 abbrev pub Steady : ℕ → List Step → Type 0
@@ -80,8 +79,8 @@ submits q = with (call.SendRequest q.to q.now) q.bytes
 pub record Life (rows x : ℕ) (s : Start) (q : Submission) (pre post : List Step) (before later : List Turn) : Type 0 where
   pub steady : Steady 0 (pre ++ (calls (submits q) ∷ post))
   pub runs_before : Runs rows (begins s) pre before
-  pub accepted : refusal_of rows (run rows (begins s) before) (kind_in (submits q)) q.bytes ≡ 0
-  pub named : (y : Message) → message_of q.bytes ≡ Good y → key y.transaction_id ≡ x
+  pub accepted : refusal_of rows (run rows (begins s) before) (kind_in (submits q)) q.bytes ≡ None
+  pub named : (y : Message) → message_of q.bytes ≡ Some y → key y.transaction_id ≡ x
   pub runs_later : Runs rows (said rows (run rows (begins s) before) (submits q)).world post later
   pub alone : LeftAlone rows x (said rows (run rows (begins s) before) (submits q)).world later
 
@@ -106,8 +105,8 @@ Spaced s (t ∷ ts) = Gaps s 0 t ts
 abbrev pub NeverBad : ℕ → World → List Turn → Type 0
 NeverBad rows w [] = Unit {0}
 NeverBad rows w (t ∷ ts) =
-    (refusal_of rows w (kind_in t) t.bytes ≡ number_of STATE → ⊥)
-    × (refusal_of rows w (kind_in t) t.bytes ≡ number_of CLOCK → ⊥)
+    (refusal_of rows w (kind_in t) t.bytes ≡ Some State → ⊥)
+    × (refusal_of rows w (kind_in t) t.bytes ≡ Some Clock → ⊥)
     × NeverBad rows (said rows w t).world ts
 
 -- The closed form, exported: each send is at the first round at or after the last send plus its wait, and the end likewise.

@@ -1,11 +1,11 @@
 -- A run that meets every kind of event, and what the definitions of this crate make of it: the hypotheses can be met, and each count,
 -- sum, sample and end has the value that one finds by hand.
-use Rattle.std.specs.Prelude.{ℕ, ◌+◌, ◌≡◌, true, List, [], ◌∷◌, map, length, take, replicate}
+use Rattle.model.specs.declared.Refusal.TheVariants.{TableFull}
+use Rattle.std.specs.Prelude.{ℕ, ◌+◌, ◌≡◌, true, List, [], ◌∷◌, map, length, take, replicate, Some}
 use Rattle.waits.specs.Waits.{milliseconds}
 use Rattle.waits.specs.declared.Transport.TheVariants.{Udp}
 use Rattle.stats.specs.Count.{zeroed}
 use Rattle.stats.specs.declared.StunAgentStats.{StunAgentStats}
-use Rattle.stats.specs.declared.Rtt.TheVariants.{Nanos}
 use Rattle.model.specs.Parts.{transmission_of}
 use Rattle.model.specs.Runs.{Turn, with, plain, answers, run}
 use Rattle.model.specs.Worked.{peer, ending, message, request, indication, success, settings}
@@ -87,8 +87,8 @@ figures = record {
   bytes_sent = 188;
   bytes_received = 100;
   rtt_sum = 18;
-  rtt_min = Nanos 7;
-  rtt_max = Nanos 11;
+  rtt_min = Some 7;
+  rtt_max = Some 11;
   rtt_count = 2;
 }
 
@@ -98,7 +98,7 @@ pub record Values : Type 0 where
       ≡ (answer.Send (ending 1) (peer 9) 0 20
       ∷ answer.Send (ending 2) (peer 8) 1 24
       ∷ answer.Send (ending 3) (peer 9) 2 20
-      ∷ answer.Refused 8
+      ∷ answer.Refused TableFull
       ∷ answer.Ok
       ∷ answer.Ok
       ∷ answer.Yes

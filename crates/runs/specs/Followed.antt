@@ -1,8 +1,7 @@
 -- A request as the calls left it, by their messages and answers alone: accepted by its `send_request`, changed by a call with its
 -- identifier, stepped by each `poll_transmit` that reached it, gone at its end. A silent step can't be seen in one answer, so the one
 -- request is followed through the calls, with the one-request definitions of the crate `request`; the table is never read.
-use Rattle.std.specs.Prelude.{ℕ, Bool, true, false, cond, ◌&&◌, List, [], ◌∷◌, eqb, leb}
-use Rattle.std.proofs.Math.Option.{Option, none, some}
+use Rattle.std.specs.Prelude.{ℕ, Bool, true, false, cond, ◌&&◌, List, [], ◌∷◌, eqb, leb, Option, None, Some, is_none}
 use Rattle.message.specs.Head.{key}
 use Rattle.message.specs.Attributes.{message_of}
 use Rattle.waits.specs.declared.RequestRto.{RequestRto}
@@ -12,7 +11,7 @@ use Rattle.request.specs.Answers.{record_after}
 use Rattle.request.specs.declared.StunRequestState.{StunRequestState}
 use Rattle.model.specs.Calls.{Passage, submits, sends, receives, Scan, transmits, reports, Wish, silence, cancel, configure, query, Kind, carries, scans, names, meets, counts, on_some}
 use Rattle.model.specs.Accepts.{on_message}
-use Rattle.model.specs.Says.{number_in}
+use Rattle.model.specs.Says.{refused_by}
 use Rattle.model.specs.declared.Answer.{Answer}
 use Rattle.model.specs.declared.Answer.TheVariants as answer
 use Rattle.runs.specs.Answers.{is_yes, on_transmission}
@@ -22,7 +21,7 @@ use Rattle.runs.specs.Ends.{responds_to, report_end}
 -- `poll_transmit` "goes up the identifiers and stops at the first request that goes out": it reached x if none went out, or one that isn't
 -- before x.
 abbrev pub reaches : ℕ → Answer → Bool
-reaches x (answer.Refused n) = false
+reaches x (answer.Refused q) = false
 reaches x answer.Ok = false
 reaches x answer.Yes = false
 reaches x answer.No = false
@@ -44,25 +43,25 @@ wished_of query r = r
 
 -- What may be absent, changed.
 abbrev pub mapped : Option StunRequestState → (StunRequestState → StunRequestState) → Option StunRequestState
-mapped o f = on_some o none (λ r. some (f r))
+mapped o f = on_some o None (λ r. Some (f r))
 
 -- The request x after a call, from what it was before; the agent has this transport and these settings.
 module _ (tr : Transport) (rto : RequestRto) (x : ℕ) where
   abbrev pub passage_followed : Passage → List ℕ → Answer → Option StunRequestState → Option StunRequestState
   passage_followed (submits to now) m a o =
       on_message (message_of m) o (λ y.
-      on_transmission a o (λ id row len. cond (eqb (key id) x) (some (submitted now id y.integrity row len to rto)) o))
+      on_transmission a o (λ id row len. cond (eqb (key id) x) (Some (submitted now id y.integrity row len to rto)) o))
   passage_followed (sends to) m a o = o
-  passage_followed (receives from clock) m a o = cond (is_yes a && responds_to x m) none o
+  passage_followed (receives from clock) m a o = cond (is_yes a && responds_to x m) None o
 
   abbrev pub scan_followed : Scan → ℕ → Answer → Option StunRequestState → Option StunRequestState
   scan_followed transmits now a o = cond (reaches x a) (mapped o (λ r. record_after r (transmit_of tr now r))) o
-  scan_followed reports now a o = on_some (report_end x a) o (λ how. none)
+  scan_followed reports now a o = on_some (report_end x a) o (λ how. None)
 
   abbrev pub followed_by : Kind → List ℕ → Answer → Option StunRequestState → Option StunRequestState
   followed_by (carries p) m a o = passage_followed p m a o
   followed_by (scans s now) m a o = scan_followed s now a o
-  followed_by (names id wish) m a o = cond (eqb (number_in a) 0 && eqb (key id) x) (mapped o (wished_of wish)) o
+  followed_by (names id wish) m a o = cond (is_none (refused_by a) && eqb (key id) x) (mapped o (wished_of wish)) o
   followed_by (meets addr y) m a o = o
   followed_by (counts f) m a o = o
 

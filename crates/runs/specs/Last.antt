@@ -1,14 +1,12 @@
 -- Demand 3's last sentence, of one run: "the wait that ends a round lies after its clock unless an initial or max of zero was set or a
 -- request whose retransmissions were cancelled has a step still due, and a round before it, with no other call between, sends and reports
 -- nothing".
-use Rattle.std.specs.Prelude.{ℕ, ◌^◌, ◌≤◌, ◌<◌, max, ◌≡◌, true, false, List, [], ◌∷◌}
-use Rattle.std.proofs.Math.Option.{Option, none, some}
+use Rattle.std.specs.Prelude.{ℕ, ◌^◌, ◌≤◌, ◌<◌, max, ◌≡◌, true, false, List, [], ◌∷◌, Option, None, Some}
 use Rattle.waits.specs.declared.RequestRto.{RequestRto}
 use Rattle.waits.specs.declared.Transport.{Transport}
 use Rattle.request.specs.Times.{is_due, moment_of}
 use Rattle.request.specs.declared.StunRequestState.{StunRequestState}
 use Rattle.requests.specs.Search.{lookup}
-use Rattle.requests.specs.declared.Found.TheVariants.{At}
 use Rattle.model.specs.World.{World}
 use Rattle.model.specs.Calls.{settings_of}
 use Rattle.model.specs.Refusals.{refusal_of}
@@ -29,14 +27,14 @@ pub record Positive (s : RequestRto) : Type 0 where
   pub max : 0 < s.max
 
 abbrev pub PositiveIf : Option RequestRto → Type 0
-PositiveIf none = Unit {0}
-PositiveIf (some rto) = Positive rto
+PositiveIf None = Unit {0}
+PositiveIf (Some rto) = Positive rto
 
 -- No call of a run that isn't refused set a zero.
 abbrev pub NoZeroSet : ℕ → World → List Turn → Type 0
 NoZeroSet rows w [] = Unit {0}
 NoZeroSet rows w (t ∷ ts) =
-    (refusal_of rows w (kind_in t) t.bytes ≡ 0 → PositiveIf (settings_of (kind_in t))) × NoZeroSet rows (said rows w t).world ts
+    (refusal_of rows w (kind_in t) t.bytes ≡ None → PositiveIf (settings_of (kind_in t))) × NoZeroSet rows (said rows w t).world ts
 
 -- No "request whose retransmissions were cancelled has a step still due".
 abbrev pub NoSilentDue : Transport → ℕ → List StunRequestState → Type 0
@@ -56,7 +54,7 @@ pub record LastSentence (rows : ℕ) (s : Start) (before : List Turn) (now clock
   -- "or a request whose retransmissions were cancelled has a step still due"
   pub after_unless_silenced : NoSilentDue s.transport now u.requests → now < clock
   -- It is at most the next moment of each request outstanding: its next send, or its end.
-  pub at_most : (x i : ℕ) (r : StunRequestState) → lookup x u.requests ≡ At i r → clock ≤ max now (moment_of s.transport now r)
+  pub at_most : (x i : ℕ) (r : StunRequestState) → lookup x u.requests ≡ Some (i, r) → clock ≤ max now (moment_of s.transport now r)
   -- "a round before it, with no other call between, sends and reports nothing"
   pub nothing_before : (soon again : ℕ) (rs : List Turn) (v : World) → now ≤ soon → soon < clock → soon ≤ 2 ^ 60 → Round rows soon u rs v again
       → Idle rows soon u rs v

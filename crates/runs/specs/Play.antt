@@ -1,9 +1,8 @@
 -- A round as a function, with a bound on its calls that is proved enough; and the run of steps from a world as a function.
-use Rattle.std.specs.Prelude.{ℕ, zero, suc, ◌+◌, ◌-◌, cond, List, [], ◌∷◌, ◌++◌, length}
+use Rattle.std.specs.Prelude.{ℕ, zero, suc, ◌+◌, ◌-◌, cond, List, [], ◌∷◌, ◌++◌, length, Option, None, Some}
 use Rattle.waits.specs.Waits.{waits_of}
 use Rattle.waits.specs.declared.Transport.{Transport}
 use Rattle.request.specs.declared.SendTimes.{SendTimes}
-use Rattle.request.specs.declared.SendTimes.TheVariants.{Never, Sent}
 use Rattle.request.specs.declared.StunRequestState.{StunRequestState}
 use Rattle.model.specs.World.{World}
 use Rattle.model.specs.Runs.{Turn, run}
@@ -21,9 +20,9 @@ polls_in rows zero now w = []
 polls_in rows (suc k) now w = poll now ∷ cond (is_report (said rows w (poll now)).answer) (polls_in rows k now (said rows w (poll now)).world) []
 
 -- The sends and silent steps that a request has left, and those of all requests.
-abbrev pub unsent : SendTimes → ℕ
-unsent Never = 1
-unsent (Sent first last) = 0
+abbrev pub unsent : Option SendTimes → ℕ
+unsent None = 1
+unsent (Some s) = 0
 
 abbrev pub left : Transport → StunRequestState → ℕ
 left tr r = unsent r.send_times + (waits_of tr r.rto - r.timeout_i)

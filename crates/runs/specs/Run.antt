@@ -1,6 +1,6 @@
 -- A run: calls with the bytes of their messages, one after the other, from a world. When it sends a request or reports that the request
 -- timed out; what it leaves is the model's `run`. Answers and worlds are those of the model's `says`.
-use Rattle.std.specs.Prelude.{ℕ, Bool, true, false, cond, ◌&&◌, List, [], ◌∷◌, ◌++◌, eqb}
+use Rattle.std.specs.Prelude.{ℕ, Bool, true, false, cond, ◌&&◌, List, [], ◌∷◌, ◌++◌, eqb, is_none}
 use Rattle.address.specs.declared.Address.{Address}
 use Rattle.message.specs.Head.{key}
 use Rattle.message.specs.Attributes.{message_of}
@@ -99,4 +99,4 @@ handles x w (meets addr y) m = false
 handles x w (counts f) m = false
 
 abbrev pub handled_by : ℕ → ℕ → World → Turn → Bool
-handled_by rows x w t = eqb (refusal_of rows w (kind_in t) t.bytes) 0 && handles x w (kind_in t) t.bytes
+handled_by rows x w t = is_none (refusal_of rows w (kind_in t) t.bytes) && handles x w (kind_in t) t.bytes

@@ -2,15 +2,12 @@
 -- with a clock and step count 0." The sample of a response is read from the request as the calls before it left it (Followed.antt), by
 -- calls, messages and answers alone: neither the statistics record nor the table is read. That it is the clock minus the clock of the
 -- request's submission, and that there is one exactly if the request made no step since, is a theorem, `sample_is`.
-use Rattle.std.specs.Prelude.{ℕ, ◌+◌, ◌≡◌, cond, not, ◌&&◌, List, [], ◌∷◌, ◌++◌, length}
-use Rattle.std.proofs.Math.Option.{Option, none}
+use Rattle.std.specs.Prelude.{ℕ, ◌+◌, ◌≡◌, cond, not, ◌&&◌, List, [], ◌∷◌, ◌++◌, length, Option, None, Some}
 use Rattle.message.specs.Head.{key}
 use Rattle.message.specs.Attributes.{message_of}
 use Rattle.waits.specs.declared.RequestRto.{RequestRto}
 use Rattle.waits.specs.declared.Transport.{Transport}
 use Rattle.stats.specs.Count.{lesser, greater}
-use Rattle.stats.specs.declared.Rtt.{Rtt}
-use Rattle.stats.specs.declared.Rtt.TheVariants.{Absent, Nanos}
 use Rattle.stats.specs.declared.StunAgentStats.{StunAgentStats}
 use Rattle.request.specs.Times.{is_due, rtt_of}
 use Rattle.request.specs.declared.StunRequestState.{StunRequestState}
@@ -26,24 +23,24 @@ abbrev pub Left : Type 0
 Left = ℕ → Option StunRequestState
 
 abbrev pub left_by : Transport → RequestRto → List Exchange → Left
-left_by tr rto l x = followed_through tr rto x none l
+left_by tr rto l x = followed_through tr rto x None l
 
 -- The sample of one call: an accepted response with a clock, whose request made no step.
-abbrev pub measured : Option ℕ → Option StunRequestState → Rtt
-measured clock o = on_some clock Absent (λ now. on_some o Absent (λ r. rtt_of now r))
+abbrev pub measured : Option ℕ → Option StunRequestState → Option ℕ
+measured clock o = on_some clock None (λ now. on_some o None (λ r. rtt_of now r))
 
-abbrev pub passage_sample : Left → List ℕ → Answer → Passage → Rtt
-passage_sample left m a (submits to now) = Absent
-passage_sample left m a (sends to) = Absent
+abbrev pub passage_sample : Left → List ℕ → Answer → Passage → Option ℕ
+passage_sample left m a (submits to now) = None
+passage_sample left m a (sends to) = None
 passage_sample left m a (receives from clock) =
-    cond (is_yes a) (on_message (message_of m) Absent (λ y. cond (is_response y.class) (measured clock (left (key y.transaction_id))) Absent)) Absent
+    cond (is_yes a) (on_message (message_of m) None (λ y. cond (is_response y.class) (measured clock (left (key y.transaction_id))) None)) None
 
-abbrev pub sample_of : Left → Exchange → Rtt
-sample_of left e = on_some (passage_of e.about) Absent (passage_sample left e.bytes e.answer)
+abbrev pub sample_of : Left → Exchange → Option ℕ
+sample_of left e = on_some (passage_of e.about) None (passage_sample left e.bytes e.answer)
 
-abbrev pub listed : Rtt → List ℕ
-listed Absent = []
-listed (Nanos t) = t ∷ []
+abbrev pub listed : Option ℕ → List ℕ
+listed None = []
+listed (Some t) = t ∷ []
 
 -- Those of a run, in its order.
 abbrev pub samples_from : Transport → RequestRto → Left → List Exchange → List ℕ
@@ -51,18 +48,18 @@ samples_from tr rto left [] = []
 samples_from tr rto left (e ∷ l) = listed (sample_of left e) ++ samples_from tr rto (λ x. followed tr rto x e (left x)) l
 
 abbrev pub samples : Transport → RequestRto → List Exchange → List ℕ
-samples tr rto l = samples_from tr rto (λ x. none) l
+samples tr rto l = samples_from tr rto (λ x. None) l
 
 abbrev pub sum_of : List ℕ → ℕ
 sum_of [] = 0
 sum_of (t ∷ l) = t + sum_of l
 
-abbrev pub least_of : List ℕ → Rtt
-least_of [] = Absent
+abbrev pub least_of : List ℕ → Option ℕ
+least_of [] = None
 least_of (t ∷ l) = lesser (least_of l) t
 
-abbrev pub greatest_of : List ℕ → Rtt
-greatest_of [] = Absent
+abbrev pub greatest_of : List ℕ → Option ℕ
+greatest_of [] = None
 greatest_of (t ∷ l) = greater (greatest_of l) t
 
 pub record RoundTrips (l : List ℕ) (s : StunAgentStats) : Type 0 where

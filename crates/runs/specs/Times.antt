@@ -1,7 +1,6 @@
 -- When one request goes out and when it ends, given only the clocks of the rounds: each send is at the first round at or after the last
 -- send plus its wait, and the end likewise. And what it means for one list of moments to be no later than another.
-use Rattle.std.specs.Prelude.{ℕ, zero, suc, ◌+◌, ◌≤◌, cond, List, [], ◌∷◌, leb}
-use Rattle.std.proofs.Math.Option.{Option, none, some}
+use Rattle.std.specs.Prelude.{ℕ, zero, suc, ◌+◌, ◌≤◌, cond, List, [], ◌∷◌, leb, Option, None, Some}
 use Rattle.waits.specs.Waits.{wait_of, final_wait}
 use Rattle.waits.specs.declared.RequestRto.{RequestRto}
 use Rattle.waits.specs.declared.Transport.{Transport}
@@ -9,8 +8,8 @@ use Rattle.model.specs.Calls.{on_some}
 
 -- The first clock that isn't before a.
 unfoldable pub next : List ℕ → ℕ → Option ℕ
-next [] a = none
-next (t ∷ ts) a = cond (leb a t) (some t) (next ts a)
+next [] a = None
+next (t ∷ ts) a = cond (leb a t) (Some t) (next ts a)
 
 -- The sends that are left, k of them, after a send at clock l with step count c.
 unfoldable pub send_times : RequestRto → ℕ → ℕ → ℕ → List ℕ → List ℕ
@@ -20,13 +19,13 @@ send_times s (suc k) c l ts = on_some (next ts (l + wait_of s c)) [] (λ t. t �
 -- The end, with k sends left.
 unfoldable pub end_time : Transport → RequestRto → ℕ → ℕ → ℕ → List ℕ → Option ℕ
 end_time tr s zero c l ts = next ts (l + final_wait tr s)
-end_time tr s (suc k) c l ts = on_some (next ts (l + wait_of s c)) none (λ t. end_time tr s k (suc c) t ts)
+end_time tr s (suc k) c l ts = on_some (next ts (l + wait_of s c)) None (λ t. end_time tr s k (suc c) t ts)
 
 -- If there is a right moment, there is a left one, and it is no later.
 abbrev pub Sooner : Option ℕ → Option ℕ → Type 0
-Sooner o none = Unit {0}
-Sooner none (some t) = ⊥
-Sooner (some u) (some t) = u ≤ t
+Sooner o None = Unit {0}
+Sooner None (Some t) = ⊥
+Sooner (Some u) (Some t) = u ≤ t
 
 -- Each moment of the right list has one at its place in the left, no later.
 abbrev pub NoLater : List ℕ → List ℕ → Type 0
@@ -52,5 +51,5 @@ pub data More : List ℕ → List ℕ → Type 0 where
 
 -- An optional moment as a list.
 abbrev pub list_of : Option ℕ → List ℕ
-list_of none = []
-list_of (some t) = t ∷ []
+list_of None = []
+list_of (Some t) = t ∷ []

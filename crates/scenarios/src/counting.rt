@@ -1,73 +1,66 @@
 // The statistics: what each event counts, the stops, and what is asked of them.
 #![tactic(auto)]
 
-use crate::say;
-use stats::{Event, Outstanding, Rtt, StunAgentStats};
+use crate::time::Time;
+use stats::{Event, StunAgentStats};
 use std::io;
 use std::io::Write;
 
-const STOP: u64 = 18446744073709551615;
+const STOP: u64 = u64::MAX;
 
 // The fourteen fields in the Rust's order, the average and the outstanding count.
 fn show<W: Write>(out: &mut W, s: StunAgentStats) -> io::Result<()> {
-    say::word(out, b"stats")?;
-    say::number(out, s.requests_sent)?;
-    say::number(out, s.requests_received)?;
-    say::number(out, s.responses_sent)?;
-    say::number(out, s.responses_received)?;
-    say::number(out, s.indications_sent)?;
-    say::number(out, s.indications_received)?;
-    say::number(out, s.transactions_timed_out)?;
-    say::number(out, s.transactions_cancelled)?;
-    say::number(out, s.bytes_sent)?;
-    say::number(out, s.bytes_received)?;
-    times(out, s)
-}
-
-fn times<W: Write>(out: &mut W, s: StunAgentStats) -> io::Result<()> {
-    say::number(out, s.rtt_sum)?;
-    let least = s.rtt_min;
-    say::time(out, least)?;
-    let most = s.rtt_max;
-    say::time(out, most)?;
-    say::number(out, s.rtt_count)?;
-    say::word(out, b" average")?;
-    say::time(out, s.rtt_average())?;
+    write!(
+        out,
+        "stats {} {} {} {} {} {} {} {} {} {} {} {} {} {} average {}",
+        s.requests_sent,
+        s.requests_received,
+        s.responses_sent,
+        s.responses_received,
+        s.indications_sent,
+        s.indications_received,
+        s.transactions_timed_out,
+        s.transactions_cancelled,
+        s.bytes_sent,
+        s.bytes_received,
+        s.rtt_sum,
+        Time(s.rtt_min),
+        Time(s.rtt_max),
+        s.rtt_count,
+        Time(s.rtt_average())
+    )?;
     left(out, s)
 }
 
 fn left<W: Write>(out: &mut W, s: StunAgentStats) -> io::Result<()> {
-    say::word(out, b" outstanding")?;
-    let count = s.outstanding_requests();
-    match count {
-        Outstanding::Count(n) => say::number(out, n)?,
-        Outstanding::BelowZero => say::word(out, b" below zero")?,
+    match s.outstanding_requests() {
+        Some(n) => writeln!(out, " outstanding {n}"),
+        None => writeln!(out, " outstanding below zero"),
     }
-    say::end(out)
 }
 
 pub fn zeroed<W: Write>(out: &mut W) -> io::Result<()> {
-    say::line(out, b"# the zeroed record")?;
+    writeln!(out, "# the zeroed record")?;
     show(out, StunAgentStats::default())
 }
 
 pub fn each_event<W: Write>(out: &mut W) -> io::Result<()> {
-    say::line(out, b"# one event after the other")?;
+    writeln!(out, "# one event after the other")?;
     let s = StunAgentStats::default().after(Event::RequestSent(20));
     show(out, s)?;
     let s = s.after(Event::RetransmitBytes(20));
     show(out, s)?;
     let s = s
         .after(Event::RequestSent(28))
-        .after(Event::ResponseReceived(32, Rtt::Nanos(7)));
+        .after(Event::ResponseReceived(32, Some(7)));
     show(out, s)?;
     let s = s
         .after(Event::RequestSent(20))
-        .after(Event::ResponseReceived(40, Rtt::Nanos(4)));
+        .after(Event::ResponseReceived(40, Some(4)));
     show(out, s)?;
     let s = s
         .after(Event::RequestSent(20))
-        .after(Event::ResponseReceived(44, Rtt::Absent));
+        .after(Event::ResponseReceived(44, None));
     show(out, s)?;
     let s = s
         .after(Event::RequestReceived(24))
@@ -87,44 +80,38 @@ pub fn each_event<W: Write>(out: &mut W) -> io::Result<()> {
 }
 
 fn with(
-    sent: u64,
-    received: u64,
-    timed_out: u64,
-    cancelled: u64,
-    bytes: u64,
-    sum: u64,
-    count: u64,
+    requests_sent: u64,
+    responses_received: u64,
+    transactions_timed_out: u64,
+    transactions_cancelled: u64,
+    bytes_sent: u64,
+    rtt_sum: u64,
+    rtt_count: u64,
 ) -> StunAgentStats {
     StunAgentStats {
-        requests_sent: sent,
-        requests_received: 0,
-        responses_sent: 0,
-        responses_received: received,
-        indications_sent: 0,
-        indications_received: 0,
-        transactions_timed_out: timed_out,
-        transactions_cancelled: cancelled,
-        bytes_sent: bytes,
-        bytes_received: 0,
-        rtt_sum: sum,
-        rtt_min: Rtt::Absent,
-        rtt_max: Rtt::Absent,
-        rtt_count: count,
+        requests_sent,
+        responses_received,
+        transactions_timed_out,
+        transactions_cancelled,
+        bytes_sent,
+        rtt_sum,
+        rtt_count,
+        ..StunAgentStats::default()
     }
 }
 
 pub fn stops<W: Write>(out: &mut W) -> io::Result<()> {
-    say::line(out, b"# numbers stay at 2^64 - 1")?;
+    writeln!(out, "# numbers stay at 2^64 - 1")?;
     let s = with(STOP, 0, STOP, STOP, STOP - 10, STOP - 1, STOP);
     show(out, s.after(Event::RequestSent(10)))?;
     show(out, s.after(Event::RequestSent(11)))?;
     show(out, s.after(Event::TimedOut).after(Event::Cancelled))?;
-    show(out, s.after(Event::ResponseReceived(STOP, Rtt::Nanos(2))))?;
+    show(out, s.after(Event::ResponseReceived(STOP, Some(2))))?;
     show(out, with(0, 0, 0, 0, 0, 5, 0))
 }
 
 pub fn outstanding<W: Write>(out: &mut W) -> io::Result<()> {
-    say::line(out, b"# exact sums, which may pass 64 bits")?;
+    writeln!(out, "# exact sums, which may pass 64 bits")?;
     left(out, with(6, 1, 2, 3, 0, 0, 0))?;
     left(out, with(7, 1, 2, 3, 0, 0, 0))?;
     left(out, with(5, 1, 2, 3, 0, 0, 0))?;

@@ -5,7 +5,7 @@
 mod counting;
 mod requests;
 mod rows;
-mod say;
+mod time;
 
 use std::io;
 

@@ -1,22 +1,23 @@
-// One request: sends, ends, cancels, settings, round trips and limits.
+// One request: sends, ends, cancels, settings, round trips and limits. What it calls an outcome is this program's: the types are other
+// crates', and print nothing.
 #![tactic(auto)]
 
-use crate::say;
+use crate::time::Time;
 use address::{Address, Host};
-use message::{Integrity, TransactionId};
+use message::{IntegrityAlgorithm, TransactionId};
 use request::{SendTimes, StunRequestPollRet, StunRequestState, StunRequestTransmit};
 use std::io;
 use std::io::Write;
 use waits::{RequestRto, Transport};
 
-const LAST_CLOCK: u64 = 1152921504606846976;
+const LAST_CLOCK: u64 = 1 << 60;
 
 fn settings(initial: u64, max: u64, retransmits: u32, last_retransmit: u64) -> RequestRto {
     RequestRto {
-        initial: initial,
-        max: max,
-        retransmits: retransmits,
-        last_retransmit: last_retransmit,
+        initial,
+        max,
+        retransmits,
+        last_retransmit,
     }
 }
 
@@ -36,7 +37,7 @@ fn peer() -> Address {
 }
 
 fn fresh(rto: RequestRto) -> StunRequestState {
-    StunRequestState::new(id(), Integrity::None, 3, 20, peer(), rto)
+    StunRequestState::new(id(), None, 3, 20, peer(), rto)
 }
 
 // Submitted at a clock; as a new request where the settings are none.
@@ -44,7 +45,7 @@ fn sent(transport: Transport, now: u64, rto: RequestRto) -> StunRequestState {
     if !rto.within_limits() {
         return fresh(rto);
     }
-    StunRequestState::submitted(transport, now, id(), Integrity::None, 3, 20, peer(), rto)
+    StunRequestState::submitted(transport, now, id(), None, 3, 20, peer(), rto)
 }
 
 fn by_udp(retransmits: u32) -> StunRequestState {
@@ -59,24 +60,16 @@ fn transmit<W: Write>(
     now: u64,
 ) -> io::Result<StunRequestState> {
     if !r.within_limits(LAST_CLOCK) {
-        say::line(out, b"outside")?;
+        writeln!(out, "outside")?;
         return Ok(r);
     }
-    let answer = r.poll_transmit(transport, now);
-    match answer {
-        StunRequestTransmit::Rests => {
-            say::line(out, b"rests")?;
-            Ok(r)
-        }
-        StunRequestTransmit::Passes(q) => {
-            say::line(out, b"passes")?;
-            Ok(q)
-        }
-        StunRequestTransmit::Goes(q) => {
-            say::line(out, b"goes")?;
-            Ok(q)
-        }
-    }
+    let (answer, then) = match r.poll_transmit(transport, now) {
+        StunRequestTransmit::Rests => ("rests", r),
+        StunRequestTransmit::Passes(q) => ("passes", q),
+        StunRequestTransmit::Goes(q) => ("goes", q),
+    };
+    writeln!(out, "{answer}")?;
+    Ok(then)
 }
 
 fn poll<W: Write>(
@@ -86,38 +79,33 @@ fn poll<W: Write>(
     now: u64,
 ) -> io::Result<()> {
     if !r.within_limits(LAST_CLOCK) {
-        return say::line(out, b"outside");
+        return writeln!(out, "outside");
     }
-    let answer = r.poll(transport, now);
-    match answer {
-        StunRequestPollRet::WaitUntil(clock) => {
-            say::word(out, b"wait")?;
-            say::number(out, clock)?;
-            say::end(out)
-        }
-        StunRequestPollRet::Cancelled => say::line(out, b"cancelled"),
-        StunRequestPollRet::TimedOut => say::line(out, b"timed out"),
+    match r.poll(transport, now) {
+        StunRequestPollRet::WaitUntil(clock) => writeln!(out, "wait {clock}"),
+        StunRequestPollRet::Cancelled => writeln!(out, "cancelled"),
+        StunRequestPollRet::TimedOut => writeln!(out, "timed out"),
     }
 }
 
 fn round_trip<W: Write>(out: &mut W, r: StunRequestState, now: u64) -> io::Result<()> {
     if !r.within_limits(now) {
-        return say::line(out, b"outside");
+        return writeln!(out, "outside");
     }
-    say::word(out, b"rtt")?;
-    say::time(out, r.round_trip(now))?;
-    say::end(out)
+    writeln!(out, "rtt {}", Time(r.round_trip(now)))
 }
 
 fn limits<W: Write>(out: &mut W, r: StunRequestState, mark: u64) -> io::Result<()> {
-    if r.within_limits(mark) {
-        return say::line(out, b"within");
-    }
-    say::line(out, b"outside")
+    let answer = if r.within_limits(mark) {
+        "within"
+    } else {
+        "outside"
+    };
+    writeln!(out, "{answer}")
 }
 
 pub fn due_and_end<W: Write>(out: &mut W) -> io::Result<()> {
-    say::line(out, b"# R = 3: waits 500 and 1000, then the end")?;
+    writeln!(out, "# R = 3: waits 500 and 1000, then the end")?;
     let r = by_udp(3);
     poll(out, r, Transport::Udp, 0)?;
     let r = transmit(out, r, Transport::Udp, 499)?;
@@ -133,9 +121,9 @@ pub fn due_and_end<W: Write>(out: &mut W) -> io::Result<()> {
 }
 
 pub fn late_calls<W: Write>(out: &mut W) -> io::Result<()> {
-    say::line(
+    writeln!(
         out,
-        b"# the next wait counts from the actual send, and nothing ends with steps left",
+        "# the next wait counts from the actual send, and nothing ends with steps left"
     )?;
     let r = by_udp(3);
     poll(out, r, Transport::Udp, 700)?;
@@ -147,7 +135,7 @@ pub fn late_calls<W: Write>(out: &mut W) -> io::Result<()> {
 }
 
 pub fn few_sends<W: Write>(out: &mut W) -> io::Result<()> {
-    say::line(out, b"# R = 1 and R = 0: no wait")?;
+    writeln!(out, "# R = 1 and R = 0: no wait")?;
     let r = by_udp(1);
     poll(out, r, Transport::Udp, 0)?;
     transmit(out, r, Transport::Udp, 7999)?;
@@ -156,7 +144,7 @@ pub fn few_sends<W: Write>(out: &mut W) -> io::Result<()> {
 }
 
 pub fn capped_waits<W: Write>(out: &mut W) -> io::Result<()> {
-    say::line(out, b"# a maximum of 3000 with R = 6")?;
+    writeln!(out, "# a maximum of 3000 with R = 6")?;
     let r = sent(Transport::Udp, 0, settings(500, 3000, 6, 8000));
     let r = transmit(out, r, Transport::Udp, 500)?;
     let r = transmit(out, r, Transport::Udp, 1500)?;
@@ -168,7 +156,7 @@ pub fn capped_waits<W: Write>(out: &mut W) -> io::Result<()> {
 }
 
 pub fn by_tcp<W: Write>(out: &mut W) -> io::Result<()> {
-    say::line(out, b"# TCP: sent once, and as long in all as UDP")?;
+    writeln!(out, "# TCP: sent once, and as long in all as UDP")?;
     let r = sent(Transport::Tcp, 0, usual(7));
     poll(out, r, Transport::Tcp, 0)?;
     transmit(out, r, Transport::Tcp, 500)?;
@@ -177,9 +165,9 @@ pub fn by_tcp<W: Write>(out: &mut W) -> io::Result<()> {
 }
 
 pub fn silenced<W: Write>(out: &mut W) -> io::Result<()> {
-    say::line(
+    writeln!(
         out,
-        b"# retransmissions cancelled: steps pass, then cancelled at once, then the end",
+        "# retransmissions cancelled: steps pass, then cancelled at once, then the end"
     )?;
     let r = by_udp(3).cancel_retransmissions();
     poll(out, r, Transport::Udp, 0)?;
@@ -192,9 +180,9 @@ pub fn silenced<W: Write>(out: &mut W) -> io::Result<()> {
 }
 
 pub fn cancelled<W: Write>(out: &mut W) -> io::Result<()> {
-    say::line(
+    writeln!(
         out,
-        b"# cancelled: said by the next poll, past the end too; never stepped",
+        "# cancelled: said by the next poll, past the end too; never stepped"
     )?;
     let r = by_udp(3).cancel();
     let r = transmit(out, r, Transport::Udp, 500)?;
@@ -204,7 +192,7 @@ pub fn cancelled<W: Write>(out: &mut W) -> io::Result<()> {
 }
 
 pub fn never_sent<W: Write>(out: &mut W) -> io::Result<()> {
-    say::line(out, b"# without a last send: due now, no count, both times")?;
+    writeln!(out, "# without a last send: due now, no count, both times")?;
     let r = fresh(usual(3));
     poll(out, r, Transport::Udp, 7)?;
     let r = transmit(out, r, Transport::Udp, 7)?;
@@ -230,7 +218,7 @@ pub fn never_sent<W: Write>(out: &mut W) -> io::Result<()> {
 }
 
 pub fn configured<W: Write>(out: &mut W) -> io::Result<()> {
-    say::line(out, b"# configure: other waits, the same count and times")?;
+    writeln!(out, "# configure: other waits, the same count and times")?;
     let r = transmit(out, by_udp(3), Transport::Udp, 500)?;
     let s = r.configure_timeout_with_max(settings(500, waits::LONGEST, 1, 100));
     poll(out, s, Transport::Udp, 599)?;
@@ -256,7 +244,7 @@ pub fn configured<W: Write>(out: &mut W) -> io::Result<()> {
 }
 
 pub fn zero_waits<W: Write>(out: &mut W) -> io::Result<()> {
-    say::line(out, b"# waits of zero")?;
+    writeln!(out, "# waits of zero")?;
     poll(
         out,
         sent(Transport::Udp, 5, settings(500, waits::LONGEST, 1, 0)),
@@ -270,10 +258,7 @@ pub fn zero_waits<W: Write>(out: &mut W) -> io::Result<()> {
 }
 
 pub fn round_trips<W: Write>(out: &mut W) -> io::Result<()> {
-    say::line(
-        out,
-        b"# round trips: now minus last send, with step count 0",
-    )?;
+    writeln!(out, "# round trips: now minus last send, with step count 0")?;
     let r = sent(Transport::Udp, 10, usual(3));
     round_trip(out, r, 10)?;
     round_trip(out, r, 25)?;
@@ -286,7 +271,7 @@ pub fn round_trips<W: Write>(out: &mut W) -> io::Result<()> {
 }
 
 pub fn longest<W: Write>(out: &mut W) -> io::Result<()> {
-    say::line(out, b"# the latest clock and the longest waits")?;
+    writeln!(out, "# the latest clock and the longest waits")?;
     let most = waits::LONGEST;
     poll(
         out,
@@ -303,7 +288,7 @@ pub fn longest<W: Write>(out: &mut W) -> io::Result<()> {
 }
 
 pub fn limits_of_settings<W: Write>(out: &mut W) -> io::Result<()> {
-    say::line(out, b"# settings within limits, and not")?;
+    writeln!(out, "# settings within limits, and not")?;
     let most = waits::LONGEST;
     limits(out, fresh(settings(most, most, 33, most)), 0)?;
     limits(out, fresh(settings(most, most, 34, most)), 0)?;
@@ -312,56 +297,53 @@ pub fn limits_of_settings<W: Write>(out: &mut W) -> io::Result<()> {
     limits(out, fresh(settings(most, most, 33, most + 1)), 0)
 }
 
-fn made(row: usize, len: usize, timeout_i: u32, send_times: SendTimes) -> StunRequestState {
-    let id = id();
-    let to = peer();
-    let rto = usual(7);
+fn made(row: usize, len: usize, timeout_i: u32, send_times: Option<SendTimes>) -> StunRequestState {
     StunRequestState {
-        transaction_id: id,
-        request_integrity: Integrity::Sha1,
-        row: row,
-        len: len,
-        to: to,
-        rto: rto,
+        transaction_id: id(),
+        request_integrity: Some(IntegrityAlgorithm::Sha1),
+        row,
+        len,
+        to: peer(),
+        rto: usual(7),
         recv_cancelled: false,
         send_cancelled: false,
-        timeout_i: timeout_i,
-        send_times: send_times,
+        timeout_i,
+        send_times,
     }
 }
 
 pub fn limits_of_records<W: Write>(out: &mut W) -> io::Result<()> {
-    say::line(out, b"# lengths, rows and counts")?;
-    limits(out, made(0, 19, 0, SendTimes::Never), 0)?;
-    limits(out, made(0, 20, 0, SendTimes::Never), 0)?;
-    limits(out, made(0, 1024, 0, SendTimes::Never), 0)?;
-    limits(out, made(0, 1025, 0, SendTimes::Never), 0)?;
-    limits(out, made(31, 20, 0, SendTimes::Never), 0)?;
-    limits(out, made(32, 20, 0, SendTimes::Never), 0)?;
-    limits(out, made(0, 20, 32, SendTimes::Never), 0)?;
-    limits(out, made(0, 20, 33, SendTimes::Never), 0)
+    writeln!(out, "# lengths, rows and counts")?;
+    limits(out, made(0, 19, 0, None), 0)?;
+    limits(out, made(0, 20, 0, None), 0)?;
+    limits(out, made(0, 1024, 0, None), 0)?;
+    limits(out, made(0, 1025, 0, None), 0)?;
+    limits(out, made(31, 20, 0, None), 0)?;
+    limits(out, made(32, 20, 0, None), 0)?;
+    limits(out, made(0, 20, 32, None), 0)?;
+    limits(out, made(0, 20, 33, None), 0)
 }
 
 pub fn limits_of_times<W: Write>(out: &mut W) -> io::Result<()> {
-    say::line(out, b"# times against the mark")?;
+    writeln!(out, "# times against the mark")?;
     limits(
         out,
-        made(0, 20, 0, SendTimes::Sent { first: 8, last: 9 }),
+        made(0, 20, 0, Some(SendTimes { first: 8, last: 9 })),
         9,
     )?;
     limits(
         out,
-        made(0, 20, 0, SendTimes::Sent { first: 9, last: 9 }),
+        made(0, 20, 0, Some(SendTimes { first: 9, last: 9 })),
         9,
     )?;
     limits(
         out,
-        made(0, 20, 0, SendTimes::Sent { first: 8, last: 9 }),
+        made(0, 20, 0, Some(SendTimes { first: 8, last: 9 })),
         8,
     )?;
     limits(
         out,
-        made(0, 20, 0, SendTimes::Sent { first: 9, last: 8 }),
+        made(0, 20, 0, Some(SendTimes { first: 9, last: 8 })),
         9,
     )
 }

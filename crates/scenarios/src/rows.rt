@@ -1,19 +1,17 @@
 // The lent store: copies into rows, and the parts handed back.
 #![tactic(auto)]
 
-use crate::say;
 use std::io;
 use std::io::Write;
 
 fn show<W: Write>(out: &mut W, store: &[u8], row: usize, len: usize) -> io::Result<()> {
-    let part = store::part(store, row, len);
-    say::word(out, b"[")?;
-    say::word(out, part)?;
-    say::line(out, b"]")
+    write!(out, "[")?;
+    out.write_all(store::part(store, row, len))?;
+    writeln!(out, "]")
 }
 
 pub fn copies<W: Write>(out: &mut W) -> io::Result<()> {
-    say::line(out, b"# a message in one row leaves the others alone")?;
+    writeln!(out, "# a message in one row leaves the others alone")?;
     let mut lent = [46u8; 32768];
     store::copy(&mut lent, 0, b"first row");
     store::copy(&mut lent, 31, b"last row");
@@ -27,7 +25,7 @@ pub fn copies<W: Write>(out: &mut W) -> io::Result<()> {
 }
 
 pub fn edges<W: Write>(out: &mut W) -> io::Result<()> {
-    say::line(out, b"# no such row, no room in a row, a store too short")?;
+    writeln!(out, "# no such row, no room in a row, a store too short")?;
     let mut lent = [46u8; 32768];
     store::copy(&mut lent, 32, b"nowhere");
     show(out, &lent, 32, 7)?;

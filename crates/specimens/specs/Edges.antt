@@ -1,9 +1,12 @@
 -- Worked values for every clause of every refusal: a world, a call or a message at each limit of document 01, which isn't refused by that
 -- clause, and one just past it, which is; and the same for the other numbers of waits, polls and statistics. A definition with another number passes every proof together with code that follows it; it
 -- doesn't pass these.
-use Rattle.std.specs.Prelude.{ℕ, zero, suc, ◌+◌, ◌-◌, ◌/◌, ◌%◌, ◌^◌, ◌≡◌, Bool, true, false, List, [], ◌∷◌, ◌++◌, map, length, take, drop, replicate}
+use Rattle.model.specs.declared.Refusal.{Refusal}
+use Rattle.stats.specs.declared.Event.{Event}
+use Rattle.model.specs.declared.Refusal.TheVariants.{NoRequest}
+use Rattle.request.specs.Times.{sent_times}
+use Rattle.std.specs.Prelude.{ℕ, zero, suc, ◌+◌, ◌-◌, ◌/◌, ◌%◌, ◌^◌, ◌≡◌, Bool, true, false, List, [], ◌∷◌, ◌++◌, map, length, take, drop, replicate, None, Option, Result, Ok, Err, Some}
 use Rattle.message.specs.declared.TransactionId.{TransactionId}
-use Rattle.message.specs.declared.Integrity.TheVariants.{None}
 use Rattle.waits.specs.Waits.{default_rto, waits_of, wait_of, final_wait}
 use Rattle.waits.specs.declared.RequestRto.{RequestRto}
 use Rattle.waits.specs.declared.Transport.TheVariants.{Udp, Tcp}
@@ -11,17 +14,14 @@ use Rattle.stats.specs.Count.{zeroed, counted}
 use Rattle.stats.specs.declared.StunAgentStats.{StunAgentStats}
 use Rattle.stats.specs.declared.Event.TheVariants as event
 use Rattle.request.specs.declared.SendTimes.{SendTimes}
-use Rattle.request.specs.declared.SendTimes.TheVariants.{Never, Sent}
 use Rattle.request.specs.declared.StunRequestState.{StunRequestState}
 use Rattle.model.specs.World.{World}
 use Rattle.model.specs.Calls.{kind_of}
-use Rattle.model.specs.Refusals.{refusal_of}
+use Rattle.model.specs.Refusals.{refusal_of, number_of}
 use Rattle.model.specs.Fresh.{build_of}
 use Rattle.model.specs.Runs.{with, plain, answers, run}
 use Rattle.model.specs.Worked.{peer, ending, message, request, indication, success, start, figures}
 use Rattle.model.specs.declared.StunAgent.{StunAgent}
-use Rattle.model.specs.declared.Built.{Built}
-use Rattle.model.specs.declared.Built.TheVariants as built
 use Rattle.model.specs.declared.Call.{Call}
 use Rattle.model.specs.declared.Call.TheVariants as call
 use Rattle.model.specs.declared.Answer.{Answer}
@@ -31,7 +31,7 @@ use Rattle.specimens.specs.Specimens.{settings}
 -- ---- worlds
 
 -- A request with its identifier, row, length, settings, step count and times.
-abbrev pub entry : TransactionId → ℕ → ℕ → RequestRto → ℕ → SendTimes → StunRequestState
+abbrev pub entry : TransactionId → ℕ → ℕ → RequestRto → ℕ → Option SendTimes → StunRequestState
 entry id row len rto count times = record {
   transaction_id = id;
   request_integrity = None;
@@ -47,7 +47,7 @@ entry id row len rto count times = record {
 
 -- One that is within all limits at the mark 9: sent at 5 and again at 7.
 abbrev pub placed : TransactionId → ℕ → StunRequestState
-placed id row = entry id row 20 default_rto 1 (Sent 5 7)
+placed id row = entry id row 20 default_rto 1 (sent_times 5 7)
 
 abbrev pub usual : ℕ → StunRequestState
 usual n = placed (ending n) n
@@ -79,8 +79,12 @@ abbrev pub filled : ℕ → World
 filled n = holding (filled_to n [])
 
 -- The number that a call is refused by, 0 for none.
+abbrev pub numbered : Option Refusal → ℕ
+numbered None = 0
+numbered (Some q) = number_of q
+
 abbrev pub number : World → Call → List ℕ → ℕ
-number w c m = refusal_of 32 w (kind_of c) m
+number w c m = numbered (refusal_of 32 w (kind_of c) m)
 
 -- That of a call which only refusal 1 can refuse.
 abbrev pub state : World → ℕ
@@ -123,17 +127,17 @@ pub record State : Type 0 where
   -- "below 32"
   pub row : map (λ n. one (placed (ending 1) n)) (0 ∷ 31 ∷ 32 ∷ []) ≡ (0 ∷ 0 ∷ 1 ∷ [])
   -- "lengths 20 to 1,024"
-  pub len : map (λ n. one (entry (ending 1) 0 n default_rto 1 (Sent 5 7))) (20 ∷ 1024 ∷ 19 ∷ 1025 ∷ []) ≡ (0 ∷ 0 ∷ 1 ∷ 1 ∷ [])
+  pub len : map (λ n. one (entry (ending 1) 0 n default_rto 1 (sent_times 5 7))) (20 ∷ 1024 ∷ 19 ∷ 1025 ∷ []) ≡ (0 ∷ 0 ∷ 1 ∷ 1 ∷ [])
   -- "settings within limits", a request's
-  pub own_count_set : map (λ n. one (entry (ending 1) 0 20 (settings 9 9 n 9) 1 (Sent 5 7))) (0 ∷ 33 ∷ 34 ∷ []) ≡ (0 ∷ 0 ∷ 1 ∷ [])
-  pub own_durations_within : map (λ s. one (entry (ending 1) 0 20 s 1 (Sent 5 7))) (spots (2 ^ 61)) ≡ (0 ∷ 0 ∷ 0 ∷ [])
-  pub own_durations_past : map (λ s. one (entry (ending 1) 0 20 s 1 (Sent 5 7))) (spots (2 ^ 61 + 1)) ≡ (1 ∷ 1 ∷ 1 ∷ [])
+  pub own_count_set : map (λ n. one (entry (ending 1) 0 20 (settings 9 9 n 9) 1 (sent_times 5 7))) (0 ∷ 33 ∷ 34 ∷ []) ≡ (0 ∷ 0 ∷ 1 ∷ [])
+  pub own_durations_within : map (λ s. one (entry (ending 1) 0 20 s 1 (sent_times 5 7))) (spots (2 ^ 61)) ≡ (0 ∷ 0 ∷ 0 ∷ [])
+  pub own_durations_past : map (λ s. one (entry (ending 1) 0 20 s 1 (sent_times 5 7))) (spots (2 ^ 61 + 1)) ≡ (1 ∷ 1 ∷ 1 ∷ [])
   -- "step count at most 32"
-  pub steps : map (λ n. one (entry (ending 1) 0 20 default_rto n (Sent 5 7))) (0 ∷ 32 ∷ 33 ∷ []) ≡ (0 ∷ 0 ∷ 1 ∷ [])
+  pub steps : map (λ n. one (entry (ending 1) 0 20 default_rto n (sent_times 5 7))) (0 ∷ 32 ∷ 33 ∷ []) ≡ (0 ∷ 0 ∷ 1 ∷ [])
   -- "first and last send both present or both absent, not above the mark", which is 9, "first not above last"
-  pub unsent : one (entry (ending 1) 0 20 default_rto 0 Never) ≡ 0
-  pub last_send : map (λ n. one (entry (ending 1) 0 20 default_rto 1 (Sent 5 n))) (5 ∷ 9 ∷ 10 ∷ []) ≡ (0 ∷ 0 ∷ 1 ∷ [])
-  pub first_send : map (λ n. one (entry (ending 1) 0 20 default_rto 1 (Sent n 7))) (7 ∷ 8 ∷ []) ≡ (0 ∷ 1 ∷ [])
+  pub unsent : one (entry (ending 1) 0 20 default_rto 0 None) ≡ 0
+  pub last_send : map (λ n. one (entry (ending 1) 0 20 default_rto 1 (sent_times 5 n))) (5 ∷ 9 ∷ 10 ∷ []) ≡ (0 ∷ 0 ∷ 1 ∷ [])
+  pub first_send : map (λ n. one (entry (ending 1) 0 20 default_rto 1 (sent_times n 7))) (7 ∷ 8 ∷ []) ≡ (0 ∷ 1 ∷ [])
 
 -- ---- the other refusals
 
@@ -149,9 +153,9 @@ abbrev pub tallied : ℕ → ℕ → ℕ → ℕ → Bool → World
 tallied sent answered timed cancelled on = world_of (agent_of 9 0 2 default_rto on) [] 32768 (figures sent answered timed cancelled 60 20)
 
 -- The number in what `build` answers, 0 for a fresh agent.
-abbrev pub built_number : Built → ℕ
-built_number (built.Refused n) = n
-built_number (built.Fresh a e) = 0
+abbrev pub built_number : Result (StunAgent × Event) Refusal → ℕ
+built_number (Err q) = number_of q
+built_number (Ok (a, e)) = 0
 
 abbrev pub building : RequestRto → ℕ
 building s = built_number (build_of (record { transport = Udp; rto = s; stats = false }))
@@ -277,7 +281,7 @@ pub record Held : Type 0 where
       ∷ answer.Ok
       ∷ answer.Request (peer 9) None
       ∷ answer.Cancelled (ending 1)
-      ∷ replicate 5 (answer.Refused 9))
+      ∷ replicate 5 (answer.Refused NoRequest))
   -- The short form of configure takes 2^61 as maximum, the other the one that it is given.
   pub short_form_lem :
       map (λ r. r.rto) (run 32 stocked (plain (call.ConfigureTimeout (ending 1) 3 4 5) ∷ [])).requests ≡ (settings 3 (2 ^ 61) 4 5 ∷ [])

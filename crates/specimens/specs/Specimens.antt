@@ -1,14 +1,13 @@
 -- Document 01, "Specimens": what the definitions of the layers give, beside what the document says. One list for all layers: a later
 -- layer adds its specimens to it.
-use Rattle.std.specs.Prelude.{ℕ, zero, suc, ◌-◌, ◌/◌, ◌%◌, ◌^◌, ◌≡◌, true, false, List, [], ◌∷◌, ◌++◌, map, take, replicate}
+use Rattle.message.specs.declared.IntegrityAlgorithm.{IntegrityAlgorithm}
+use Rattle.message.specs.declared.Message.{Message}
+use Rattle.message.specs.declared.IntegrityAlgorithm.TheVariants.{Sha1, Sha256}
+use Rattle.std.specs.Prelude.{ℕ, zero, suc, ◌-◌, ◌/◌, ◌%◌, ◌^◌, ◌≡◌, true, false, List, [], ◌∷◌, ◌++◌, map, take, replicate, Option, None, Some}
 use Rattle.address.specs.declared.Host.TheVariants.{V4}
 use Rattle.message.specs.Attributes.{message_of}
 use Rattle.message.specs.declared.MessageClass.{MessageClass}
 use Rattle.message.specs.declared.MessageClass.TheVariants.{Request, Indication, Success, Error}
-use Rattle.message.specs.declared.Integrity.{Integrity}
-use Rattle.message.specs.declared.Integrity.TheVariants.{None, Sha1, Sha256}
-use Rattle.message.specs.declared.Parsed.{Parsed}
-use Rattle.message.specs.declared.Parsed.TheVariants.{Good, Bad}
 use Rattle.waits.specs.Waits.{milliseconds, default_rto, within_limits, waits_of, wait_of, final_wait}
 use Rattle.waits.specs.declared.RequestRto.{RequestRto}
 use Rattle.waits.specs.declared.Transport.TheVariants.{Udp, Tcp}
@@ -49,8 +48,8 @@ unfoldable pub attribute : ℕ → List ℕ
 attribute type = type / 256 ∷ type % 256 ∷ 0 ∷ 4 ∷ 9 ∷ 9 ∷ 9 ∷ 9 ∷ []
 
 -- What is read of a Binding message with the identifier 1.
-abbrev pub binding : MessageClass → Integrity → Parsed
-binding class integrity = Good (record { class = class; method = 1; transaction_id = record { hi = 0; lo = 1 }; integrity = integrity })
+abbrev pub binding : MessageClass → Option IntegrityAlgorithm → Option Message
+binding class integrity = Some (record { class = class; method = 1; transaction_id = record { hi = 0; lo = 1 }; integrity = integrity })
 
 -- A request sent at 0 with an initial wait of 500 ms, R as given, and 8,000 ms at the end.
 abbrev pub at_zero : ℕ → StunRequestState
@@ -80,9 +79,9 @@ specimens =
     ∷ gives (message_of (bytes_of 0x0101 0 [])) (binding Success None)
     ∷ gives (message_of (bytes_of 0x0111 0 [])) (binding Error None)
     -- S8: 0 and 19 bytes are bad, and so is a length of 2
-    ∷ gives (message_of []) Bad
-    ∷ gives (message_of (take 19 (bytes_of 0x0001 0 []))) Bad
-    ∷ gives (message_of (bytes_of 0x0001 2 (0 ∷ 0 ∷ []))) Bad
+    ∷ gives (message_of []) None
+    ∷ gives (message_of (take 19 (bytes_of 0x0001 0 []))) None
+    ∷ gives (message_of (bytes_of 0x0001 2 (0 ∷ 0 ∷ []))) None
     -- S9: due = now sends, end = now times out; and neither a nanosecond earlier
     ∷ gives (goes_out (transmit_of Udp (milliseconds 500) (at_zero 3))) true
     ∷ gives (goes_out (transmit_of Udp (milliseconds 500 - 1) (at_zero 3))) false
@@ -96,8 +95,8 @@ specimens =
 -- Beside the document's own, some of section 14: padding may hold anything and must be there; the last integrity type counts.
 unfoldable pub attributes : List Specimen
 attributes =
-    gives (message_of (bytes_of 0x0001 16 (attribute 0x0008 ++ attribute 0x001C))) (binding Request Sha256)
-    ∷ gives (message_of (bytes_of 0x0001 16 (attribute 0x001C ++ attribute 0x0008))) (binding Request Sha1)
-    ∷ gives (message_of (bytes_of 0x0001 16 (0x80 ∷ 0x22 ∷ 0 ∷ 1 ∷ 7 ∷ 7 ∷ 7 ∷ 7 ∷ attribute 0x0008))) (binding Request Sha1)
-    ∷ gives (message_of (bytes_of 0x0001 8 (0x80 ∷ 0x22 ∷ 0 ∷ 5 ∷ 7 ∷ 7 ∷ 7 ∷ 7 ∷ []))) Bad
+    gives (message_of (bytes_of 0x0001 16 (attribute 0x0008 ++ attribute 0x001C))) (binding Request (Some Sha256))
+    ∷ gives (message_of (bytes_of 0x0001 16 (attribute 0x001C ++ attribute 0x0008))) (binding Request (Some Sha1))
+    ∷ gives (message_of (bytes_of 0x0001 16 (0x80 ∷ 0x22 ∷ 0 ∷ 1 ∷ 7 ∷ 7 ∷ 7 ∷ 7 ∷ attribute 0x0008))) (binding Request (Some Sha1))
+    ∷ gives (message_of (bytes_of 0x0001 8 (0x80 ∷ 0x22 ∷ 0 ∷ 5 ∷ 7 ∷ 7 ∷ 7 ∷ 7 ∷ []))) None
     ∷ []

@@ -11,19 +11,7 @@ use Rattle.stats.specs.Query.{settled}
 use Rattle.stats.specs.Laws.{BelowStops, opens, settles}
 use Rattle.stats.specs.declared.StunAgentStats.{StunAgentStats}
 use Rattle.stats.specs.declared.Event.{Event}
-use Rattle.stats.specs.declared.Event.TheVariants.{
-  Nothing,
-  RequestSent,
-  RequestReceived,
-  IndicationSent,
-  IndicationReceived,
-  ResponseSent,
-  ResponseReceived,
-  RetransmitBytes,
-  TimedOut,
-  Cancelled,
-  Reset,
-}
+use Rattle.stats.specs.declared.Event.TheVariants.{Nothing, Reset}
 
 pub record CountersMoved (e : Event) (s : StunAgentStats) : Type 0 where
   pub requests_sent : (counted e s).requests_sent ≡ moved (moves_of e).requests_sent s.requests_sent
@@ -39,18 +27,7 @@ pub record CountersMoved (e : Event) (s : StunAgentStats) : Type 0 where
 
 pub counters_moved : (e : Event) (s : StunAgentStats) → CountersMoved e s
 unfolding counted
-counters_moved e s = record {
-  requests_sent = refl;
-  requests_received = refl;
-  responses_sent = refl;
-  responses_received = refl;
-  indications_sent = refl;
-  indications_received = refl;
-  timed_out = refl;
-  cancelled = refl;
-  bytes_sent = refl;
-  bytes_received = refl;
-}
+counters_moved e s = grind arith
 
 pub times_after_lem : (e : Event) (s : StunAgentStats) → times_of (counted e s) ≡ times_after e (times_of s)
 unfolding counted
@@ -67,28 +44,8 @@ module _ (s : StunAgentStats) where
 
   pub opened : (e : Event) → (e ≡ Reset → ⊥) → BelowStops (counted e s) → (counted e s).requests_sent ≡ s.requests_sent + opens e
   unfolding counted
-  opened Nothing other below = omega arith
-  opened (RequestSent n) other below = omega arith
-  opened (RequestReceived n) other below = omega arith
-  opened (IndicationSent n) other below = omega arith
-  opened (IndicationReceived n) other below = omega arith
-  opened (ResponseSent n) other below = omega arith
-  opened (ResponseReceived n t) other below = omega arith
-  opened (RetransmitBytes n) other below = omega arith
-  opened TimedOut other below = omega arith
-  opened Cancelled other below = omega arith
-  opened Reset other below = absurd (other refl)
+  opened e other below = grind arith
 
   pub settled_by : (e : Event) → (e ≡ Reset → ⊥) → BelowStops (counted e s) → settled (counted e s) ≡ settled s + settles e
   unfolding counted
-  settled_by Nothing other below = omega arith
-  settled_by (RequestSent n) other below = omega arith
-  settled_by (RequestReceived n) other below = omega arith
-  settled_by (IndicationSent n) other below = omega arith
-  settled_by (IndicationReceived n) other below = omega arith
-  settled_by (ResponseSent n) other below = omega arith
-  settled_by (ResponseReceived n t) other below = omega arith
-  settled_by (RetransmitBytes n) other below = omega arith
-  settled_by TimedOut other below = omega arith
-  settled_by Cancelled other below = omega arith
-  settled_by Reset other below = absurd (other refl)
+  settled_by e other below = grind arith

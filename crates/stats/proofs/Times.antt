@@ -1,4 +1,5 @@
 -- From a zeroed record, below the stops, minimum ≤ average ≤ maximum is kept by every event.
+use Rattle.std.specs.Prelude.{Option, None, Some}
 use mathlib.Core.Path.{◌≡◌, refl}
 use Prim.Native.Nat.{ℕ, zero, suc, ◌+◌, ◌-◌, ◌*◌, ◌^◌, ◌≤◌, ◌<◌, min, max}
 use native.Mathlib.Nat.{mul-le-mul_right, le-div_iff_mul-le, div-le_of_le-mul, mul_comm, mul-add, mul-one}
@@ -7,22 +8,7 @@ use Rattle.stats.specs.Count.{plus, lesser, greater, counted, zeroed}
 use Rattle.stats.specs.Query.{average, average_of}
 use Rattle.stats.specs.Laws.{BelowStops, Between, Spread, Ordered}
 use Rattle.stats.specs.declared.StunAgentStats.{StunAgentStats}
-use Rattle.stats.specs.declared.Rtt.{Rtt}
-use Rattle.stats.specs.declared.Rtt.TheVariants.{Absent, Nanos}
 use Rattle.stats.specs.declared.Event.{Event}
-use Rattle.stats.specs.declared.Event.TheVariants.{
-  Nothing,
-  RequestSent,
-  RequestReceived,
-  IndicationSent,
-  IndicationReceived,
-  ResponseSent,
-  ResponseReceived,
-  RetransmitBytes,
-  TimedOut,
-  Cancelled,
-  Reset,
-}
 
 pub zeroed_spread : Spread zeroed
 zeroed_spread = (refl, refl)
@@ -39,42 +25,30 @@ more_above b t count sum h =
     omega (arith, more (max b t) count, mul-le-mul_right {m = b} {n = max b t} count (omega arith))
 
 -- One sample more, where neither the sum nor the count stops.
-between_more : (a b : Rtt) (sum count t : ℕ) → Between a b sum count → plus sum t < 2 ^ 64 - 1 → plus count 1 < 2 ^ 64 - 1
+between_more : (a b : Option ℕ) (sum count t : ℕ) → Between a b sum count → plus sum t < 2 ^ 64 - 1 → plus count 1 < 2 ^ 64 - 1
     → Between (lesser a t) (greater b t) (plus sum t) (plus count 1)
-between_more Absent Absent sum count t h below more-count =
+between_more None None sum count t h below more-count =
     let one : plus count 1 ≡ 1 = omega arith in
     let all : plus sum t ≡ t = omega arith in
     rw (one, all) (omega arith, omega arith, omega arith)
-between_more Absent (Nanos b) sum count t h below more-count = absurd h
-between_more (Nanos a) Absent sum count t h below more-count = absurd h
-between_more (Nanos a) (Nanos b) sum count t h below more-count =
+between_more None (Some b) sum count t h below more-count = absurd h
+between_more (Some a) None sum count t h below more-count = absurd h
+between_more (Some a) (Some b) sum count t h below more-count =
     let one : plus count 1 ≡ count + 1 = omega arith in
     let all : plus sum t ≡ sum + t = omega arith in
     rw (one, all) (omega arith, more_below a t count sum h.1, more_above b t count sum h.2)
 
 pub spread_kept : (e : Event) (s : StunAgentStats) → Spread s → BelowStops (counted e s) → Spread (counted e s)
 unfolding counted
-spread_kept Nothing s h below = h
-spread_kept (RequestSent n) s h below = h
-spread_kept (RequestReceived n) s h below = h
-spread_kept (IndicationSent n) s h below = h
-spread_kept (IndicationReceived n) s h below = h
-spread_kept (ResponseSent n) s h below = h
-spread_kept (ResponseReceived n Absent) s h below = h
-spread_kept (ResponseReceived n (Nanos t)) s h below =
-    between_more s.rtt_min s.rtt_max s.rtt_sum s.rtt_count t h below.sum below.count
-spread_kept (RetransmitBytes n) s h below = h
-spread_kept TimedOut s h below = h
-spread_kept Cancelled s h below = h
-spread_kept Reset s h below = zeroed_spread
+spread_kept e s h below = grind (arith, between_more)
 
 -- So the average, where there is one, lies between the two.
-ordered : (a b : Rtt) (sum count : ℕ) → Between a b sum count → Ordered a (average sum count) b
-ordered Absent Absent sum count h = rw h.1 tt
-ordered Absent (Nanos b) sum count h = absurd h
-ordered (Nanos a) Absent sum count h = absurd h
-ordered (Nanos a) (Nanos b) sum zero h = absurd (omega arith)
-ordered (Nanos a) (Nanos b) sum (suc n) h =
+ordered : (a b : Option ℕ) (sum count : ℕ) → Between a b sum count → Ordered a (average sum count) b
+ordered None None sum count h = rw h.1 tt
+ordered None (Some b) sum count h = absurd h
+ordered (Some a) None sum count h = absurd h
+ordered (Some a) (Some b) sum zero h = absurd (omega arith)
+ordered (Some a) (Some b) sum (suc n) h =
     ((le-div_iff_mul-le {k = suc n} {x = a} {y = sum} h.0).1 h.1, div-le_of_le-mul (suc n) (rw mul_comm h.2))
 
 pub spread_ordered : (s : StunAgentStats) → Spread s → Ordered s.rtt_min (average_of s) s.rtt_max

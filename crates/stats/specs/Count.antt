@@ -1,7 +1,5 @@
 -- What each event of a call does to the statistics (document 01, "The agent" and "Numbers").
-use Rattle.std.specs.Prelude.{ℕ, ◌+◌, ◌-◌, ◌^◌, min, max}
-use Rattle.stats.specs.declared.Rtt.{Rtt}
-use Rattle.stats.specs.declared.Rtt.TheVariants.{Absent, Nanos}
+use Rattle.std.specs.Prelude.{ℕ, ◌+◌, ◌-◌, ◌^◌, min, max, Option, None, Some}
 use Rattle.stats.specs.declared.StunAgentStats.{StunAgentStats}
 use Rattle.stats.specs.declared.Event.{Event}
 use Rattle.stats.specs.declared.Event.TheVariants.{
@@ -78,8 +76,8 @@ moves_of Reset = row fresh fresh fresh fresh fresh fresh fresh fresh fresh fresh
 -- The four numbers on round trips.
 pub record Times : Type 0 where
   pub sum : ℕ
-  pub least : Rtt
-  pub most : Rtt
+  pub least : Option ℕ
+  pub most : Option ℕ
   pub count : ℕ
 
 -- Those of a record.
@@ -87,23 +85,23 @@ abbrev pub times_of : StunAgentStats → Times
 times_of s = record { sum = s.rtt_sum; least = s.rtt_min; most = s.rtt_max; count = s.rtt_count }
 
 -- The least of the times so far, with one more.
-abbrev pub lesser : Rtt → ℕ → Rtt
-lesser Absent t = Nanos t
-lesser (Nanos m) t = Nanos (min m t)
+abbrev pub lesser : Option ℕ → ℕ → Option ℕ
+lesser None t = Some t
+lesser (Some m) t = Some (min m t)
 
 -- The greatest.
-abbrev pub greater : Rtt → ℕ → Rtt
-greater Absent t = Nanos t
-greater (Nanos m) t = Nanos (max m t)
+abbrev pub greater : Option ℕ → ℕ → Option ℕ
+greater None t = Some t
+greater (Some m) t = Some (max m t)
 
 -- One round trip of t nanoseconds more.
 abbrev pub timed : ℕ → Times → Times
 timed t x = record { sum = plus x.sum t; least = lesser x.least t; most = greater x.most t; count = plus x.count 1 }
 
 -- The same where the response has none that counts.
-abbrev pub timed_by : Rtt → Times → Times
-timed_by Absent x = x
-timed_by (Nanos t) x = timed t x
+abbrev pub timed_by : Option ℕ → Times → Times
+timed_by None x = x
+timed_by (Some t) x = timed t x
 
 -- Only a response and a reset touch the round trips.
 abbrev pub times_after : Event → Times → Times
@@ -117,7 +115,7 @@ times_after (ResponseReceived n t) x = timed_by t x
 times_after (RetransmitBytes n) x = x
 times_after TimedOut x = x
 times_after Cancelled x = x
-times_after Reset x = record { sum = 0; least = Absent; most = Absent; count = 0 }
+times_after Reset x = record { sum = 0; least = None; most = None; count = 0 }
 
 -- Other round trips, and all else as it was.
 abbrev pub with_times : Times → StunAgentStats → StunAgentStats
@@ -171,7 +169,7 @@ zeroed = record {
   bytes_sent = 0;
   bytes_received = 0;
   rtt_sum = 0;
-  rtt_min = Absent;
-  rtt_max = Absent;
+  rtt_min = None;
+  rtt_max = None;
   rtt_count = 0;
 }

@@ -1,7 +1,5 @@
 -- The words of the laws about the statistics: the stops, the requests opened and settled, and the spread of the round trips.
-use Rattle.std.specs.Prelude.{ℕ, ◌-◌, ◌*◌, ◌^◌, ◌≤◌, ◌<◌, ◌≡◌}
-use Rattle.stats.specs.declared.Rtt.{Rtt}
-use Rattle.stats.specs.declared.Rtt.TheVariants.{Absent, Nanos}
+use Rattle.std.specs.Prelude.{ℕ, ◌-◌, ◌*◌, ◌^◌, ◌≤◌, ◌<◌, ◌≡◌, Option, None, Some}
 use Rattle.stats.specs.declared.StunAgentStats.{StunAgentStats}
 use Rattle.stats.specs.declared.Event.{Event}
 use Rattle.stats.specs.declared.Event.TheVariants.{
@@ -56,21 +54,21 @@ settles Cancelled = 1
 settles Reset = 0
 
 -- The sum of the samples lies between count times the least and count times the greatest; without a sample all are absent or 0.
-abbrev pub Between : Rtt → Rtt → ℕ → ℕ → Type 0
-Between Absent Absent sum count = (sum ≡ 0) × (count ≡ 0)
-Between Absent (Nanos b) sum count = ⊥
-Between (Nanos a) Absent sum count = ⊥
-Between (Nanos a) (Nanos b) sum count = (0 < count) × (a * count ≤ sum) × (sum ≤ b * count)
+abbrev pub Between : Option ℕ → Option ℕ → ℕ → ℕ → Type 0
+Between None None sum count = (sum ≡ 0) × (count ≡ 0)
+Between None (Some b) sum count = ⊥
+Between (Some a) None sum count = ⊥
+Between (Some a) (Some b) sum count = (0 < count) × (a * count ≤ sum) × (sum ≤ b * count)
 
 -- Of a record.
 abbrev pub Spread : StunAgentStats → Type 0
 Spread s = Between s.rtt_min s.rtt_max s.rtt_sum s.rtt_count
 
 -- Minimum ≤ average ≤ maximum; or none of the three.
-abbrev pub Ordered : Rtt → Rtt → Rtt → Type 0
-Ordered Absent Absent Absent = Unit {0}
-Ordered Absent Absent (Nanos b) = ⊥
-Ordered Absent (Nanos m) b = ⊥
-Ordered (Nanos a) Absent b = ⊥
-Ordered (Nanos a) (Nanos m) Absent = ⊥
-Ordered (Nanos a) (Nanos m) (Nanos b) = (a ≤ m) × (m ≤ b)
+abbrev pub Ordered : Option ℕ → Option ℕ → Option ℕ → Type 0
+Ordered None None None = Unit {0}
+Ordered None None (Some b) = ⊥
+Ordered None (Some m) b = ⊥
+Ordered (Some a) None b = ⊥
+Ordered (Some a) (Some m) None = ⊥
+Ordered (Some a) (Some m) (Some b) = (a ≤ m) × (m ≤ b)

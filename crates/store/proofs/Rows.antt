@@ -7,21 +7,21 @@
 use mathlib.Core.Path.{◌≡◌, refl, sym, ap, ◌∙◌}
 use mathlib.Core.Logic.{◌⊎◌, inl, inr, ⊎_elim}
 use mathlib.Core.Bool.{Bool, true, false, cond, and-eq-true_iff}
-use mathlib.Core.List.{List, [], ◌∷◌, ◌++◌, append_assoc}
-use Prim.Native.Nat.{ℕ, zero, suc, ◌+◌, ◌-◌, ◌*◌, ◌≤◌, ◌<◌}
-use native.Mathlib.Decide.{dec_le}
+use mathlib.Core.List.{List, [], ◌++◌, append_assoc}
+use Prim.Native.Nat.{ℕ, ◌+◌, ◌-◌, ◌*◌, ◌≤◌, ◌<◌}
 use native.Mathlib.Omega.{arith}
 use lib.ListN.{length, take, drop, get_or, length-append, length-drop, get_or-append}
-use lib.Seq.{take-nil, take-take, take_at, drop_at, drop-drop, length-take-le, get_or-take, get_or-drop}
+use lib.Seq.{take-take, take_at, drop_at, drop-drop, length-take-le, get_or-take, get_or-drop}
+use Rattle.std.proofs.lemmas.Bool.{cases_lt}
+use Rattle.std.proofs.lemmas.List.{drop-take}
 use borrow.Author.Tests.{lt-ltb, le-leb, ltb-true, leb-true}
 use Rattle.store.specs.Rows.{in_store, stored, copied, part_of}
 
 -- A part that ends within the first m elements is a part of those.
 within : (n len m : ℕ) (l : List ℕ) → n + len ≤ m → take len (drop n (take m l)) ≡ take len (drop n l)
-within zero len m l h = take-take len m l (omega arith)
-within (suc n) len m [] h = rw (take-nil m, take-nil len)
-within (suc n) len zero (x ∷ l) h = absurd (omega arith)
-within (suc n) len (suc m) (x ∷ l) h = within n len m l (omega arith)
+within n len m l h =
+    let e : m ≡ n + (m - n) = omega arith in
+    rw (e, drop-take n (m - n) l) (take-take len (m - n) (drop n l) (omega arith))
 
 module _ (store : List ℕ) (row : ℕ) (bytes : List ℕ) (fits : row * 1024 + length bytes ≤ length store) where
   head_length : length (take (row * 1024) store) ≡ row * 1024
@@ -99,9 +99,6 @@ cond_same : (b : Bool) (z : List ℕ) {x y : List ℕ} → (b ≡ true → x ≡
 cond_same true z f = f refl
 cond_same false z f = refl
 
-le_or_lt : (a b : ℕ) → (a ≤ b) ⊎ (b < a)
-le_or_lt a b = elim (dec_le a b) [ yes h ↦ inl h | no h ↦ inr (omega arith) ]
-
 module _ (rows : ℕ) (store : List ℕ) (row : ℕ) (bytes : List ℕ) where
   bytes_fit : in_store rows store row (length bytes) ≡ true → row * 1024 + length bytes ≤ length store
   bytes_fit e = let p = is_part rows store row (length bytes) e in omega arith
@@ -133,9 +130,9 @@ module _ (rows : ℕ) (store : List ℕ) (row : ℕ) (bytes : List ℕ) where
       (cond_same (in_store rows store k len) [] (λ f.
       let q = is_part rows store k len f in
       ⊎_elim
-      (λ (up : suc k ≤ row). earlier store row bytes (bytes_fit e) k len (omega arith))
-      (λ (down : row < suc k). later store row bytes (bytes_fit e) k len (omega arith))
-      (le_or_lt (suc k) row)))
+      (λ (up : k < row). earlier store row bytes (bytes_fit e) k len (omega arith))
+      (λ (down : row ≤ k). later store row bytes (bytes_fit e) k len (omega arith))
+      (cases_lt k row)))
 
   pub part_other : (k len : ℕ) → (k ≡ row → ⊥) → part_of rows (copied rows store row bytes) k len ≡ part_of rows store k len
   unfolding copied

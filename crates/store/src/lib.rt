@@ -2,56 +2,45 @@
 // `bytes: Vec<u8>` of each request.
 #![tactic(auto)]
 
-ghost use Rattle.std.specs.Prelude.{◌≡◌, length};
-ghost use Rattle.store.specs.Rows.{copied, part_of};
+ghost use Rattle.std.specs.Prelude.{◌≡◌, ◌+◌, ◌*◌, ◌≤◌, true, false, length, MatchOption};
+ghost use Rattle.store.specs.Rows.{in_store, copied, part_of};
+
+use std::ops::Range;
 
 pub const ROWS: usize = 32;
 
 pub const ROW: usize = 1024;
 
-fn copy_over(to: &mut [u8], from: &[u8])
-    requires { length to.old ≡ length from.now }
-    ensures { to.new ≡ from.now }
+// Where the first `len` bytes of a row stand, if there are such a row and so many bytes in it.
+#[tactic(auto, unfolding(crate::specs::Rows::in_store))]
+fn place(store: &[u8], row: usize, len: usize) -> Option<Range<usize>>
+    ensures { MatchOption result (in_store 32 store.now row len ≡ false) (λ at. (in_store 32 store.now row len ≡ true)
+        × (at.start ≡ row * 1024) × (at.end ≡ row * 1024 + len) × (at.end ≤ length store.now)) }
 {
-    let mut i = 0;
-    while i < from.len() {
-        to[i] = from[i];
-        i += 1;
+    if row < ROWS && len <= ROW && ROWS * ROW <= store.len() {
+        Some(row * ROW..row * ROW + len)
+    } else {
+        None
     }
 }
 
 // Copies a message to a row's start. Where it doesn't fit, nothing changes: the agent has refused such a message before.
+#[tactic(auto, using(crate::proofs::Copies::copy_some), unfolding(crate::specs::Rows::copied))]
 pub fn copy(store: &mut [u8], row: usize, bytes: &[u8])
     ensures { store.new ≡ copied 32 store.old row bytes.now }
 {
-    if row >= ROWS {
-        return;
+    if let Some(at) = place(store, row, bytes.len()) {
+        store[at].copy_from_slice(bytes);
     }
-    if bytes.len() > ROW {
-        return;
-    }
-    if store.len() < ROWS * ROW {
-        return;
-    }
-    let start = row * ROW;
-    let end = start + bytes.len();
-    copy_over(&mut store[start..end], bytes);
 }
 
 // The first `len` bytes of a row, as a part of the store and no copy; the empty part where there are none such.
+#[tactic(auto, unfolding(crate::specs::Rows::part_of))]
 pub fn part(store: &[u8], row: usize, len: usize) -> &[u8]
     ensures { result.now ≡ part_of 32 store.now row len }
 {
-    if row >= ROWS {
-        return &store[..0];
+    match place(store, row, len) {
+        Some(at) => &store[at],
+        None => &[],
     }
-    if len > ROW {
-        return &store[..0];
-    }
-    if store.len() < ROWS * ROW {
-        return &store[..0];
-    }
-    let start = row * ROW;
-    let end = start + len;
-    &store[start..end]
 }

@@ -1,3 +1,4 @@
--- Laws that the table's functions cite, one for each way through a turn of a loop.
-mod Turns
+-- Laws that the table's functions cite.
+mod Moves
 mod Scans
+mod Searches

@@ -2,6 +2,7 @@
 --     Stands                          the whole scan is what was passed, in front of the scan over the rest
 --     begun                           before the first turn
 --     rested, passed, went, ended     a request rests, passes silently or goes out; no request is left
+use Rattle.std.specs.Prelude.{Option, None, Some}
 use Prim.Native.Nat.{ℕ, ◌+◌, ◌*◌, ◌^◌, ◌≤◌, ◌<◌}
 use mathlib.Core.Path.{◌≡◌, refl, sym, ap, ◌∙◌}
 use mathlib.Core.List.{List, [], ◌∷◌, ◌++◌, append_assoc, append-nil}
@@ -22,10 +23,15 @@ use Rattle.records.proofs.Coding.{length_encode}
 use Rattle.records.proofs.Live.{length_live, live_next, became_set}
 use Rattle.requests.specs.Scan.{Walk, behind, walk_by, walk}
 use Rattle.requests.specs.Formed.{AllWithin}
-use Rattle.requests.specs.declared.Transmitted.{Transmitted}
-use Rattle.requests.specs.declared.Transmitted.TheVariants.{Sends, Quiet}
 use Rattle.table.specs.Table.{walk_rows, Transmits}
-use Rattle.table.proofs.Turns.{within_here, within_ahead}
+
+-- ---- requests within their limits, of which x stands at place i
+module _ (l : List StunRequestState) (i : ℕ) (x : StunRequestState) (e : drop i l ≡ x ∷ drop (i + 1) l) (rows mark : ℕ) (w : AllWithin rows mark (drop i l)) where
+  within_here : RequestLimits rows mark x
+  within_here = (rw e at w).0
+
+  within_ahead : AllWithin rows mark (drop (i + 1) l)
+  within_ahead = (rw e at w).1
 
 -- ---- one place of any scan: x stands at place i of l
 module _ {A : Type 0} (get : A → StunRequestState) (new : StunRequestState → A) (t : Transport) (now : ℕ) (l : List A) (i : ℕ) where
@@ -33,7 +39,7 @@ module _ {A : Type 0} (get : A → StunRequestState) (new : StunRequestState →
   abbrev scanned : Walk A
   scanned = behind (take i l) (walk_by get new t now (drop i l))
 
-  scan_ended : length l ≤ i → scanned ≡ record { out = Quiet; after = l }
+  scan_ended : length l ≤ i → scanned ≡ record { out = None; after = l }
   scan_ended h = rw (drop_of_length-le l h, take_all i l h, append-nil)
 
   module _ (x : A) (e : drop i l ≡ x ∷ drop (i + 1) l) where
@@ -54,7 +60,7 @@ module _ {A : Type 0} (get : A → StunRequestState) (new : StunRequestState →
           let b : drop (i + 1) (set l i (new p)) ≡ drop (i + 1) l = drop-set-lt (i + 1) l i (new p) (omega arith) in
           rw (e, f, a, b) (two (take i l) (new p ∷ []) (walk_by get new t now (drop (i + 1) l)))
 
-      scan_goes : transmit_of t now (get x) ≡ Goes p → scanned ≡ record { out = Sends p; after = set l i (new p) }
+      scan_goes : transmit_of t now (get x) ≡ Goes p → scanned ≡ record { out = Some p; after = set l i (new p) }
       scan_goes f = rw (e, f, set_split l i (new p) h, ← add-one i)
 
 -- ---- the scan over words: t₀ as they came, t as they stand at place i
@@ -71,7 +77,7 @@ module _ (transport : Transport) (n clock : ℕ) (t₀ : List ℕ) where
   begun w = record { inside = omega arith; same_length = refl; kept = refl; ahead = w; by_rows = refl; by_requests = refl }
 
   -- what the scan left: t are the words, l the rows and requests that the two readings of it give
-  left : (t : List ℕ) (out : Transmitted) (rs : List (List ℕ)) (l : List StunRequestState)
+  left : (t : List ℕ) (out : Option StunRequestState) (rs : List (List ℕ)) (l : List StunRequestState)
       → walk_rows transport clock (rows width n t₀) ≡ record { out = out; after = rs }
       → walk transport clock (live n t₀) ≡ record { out = out; after = l }
       → Became t₀ t n rs l
@@ -85,9 +91,9 @@ module _ (transport : Transport) (n clock : ℕ) (t₀ : List ℕ) where
   }
 
   module _ (t : List ℕ) (i : ℕ) (s : Stands transport n clock t₀ t i) where
-    pub ended : n ≤ i → Transmits transport n clock t₀ Quiet t
+    pub ended : n ≤ i → Transmits transport n clock t₀ None t
     ended h =
-        left t Quiet (rows width n t) (live n t)
+        left t None (rows width n t) (live n t)
         (s.by_rows ∙ scan_ended decode encode transport clock (rows width n t) i (rw (length_rows width n t) h))
         (s.by_requests ∙ scan_ended (λ r. r) (λ r. r) transport clock (live n t) i (rw (length_live n t) h))
         record { words = held width n t₀ t (rows width n t) refl s.kept; holds = refl }
@@ -148,9 +154,9 @@ module _ (transport : Transport) (n clock : ℕ) (t₀ : List ℕ) where
               ∙ rw set_row.holds (scan_passes (λ r. r) (λ r. r) transport clock (live n t) i (decode (row width t i)) (live_next n i t h) p (rw (length_live n t) h) f);
         }
 
-        pub went : transmit_of transport clock (decode (row width t i)) ≡ Goes p → Transmits transport n clock t₀ (Sends p) t'
+        pub went : transmit_of transport clock (decode (row width t i)) ≡ Goes p → Transmits transport n clock t₀ (Some p) t'
         went f =
-            left t' (Sends p) (set (rows width n t) i (encode p)) (set (live n t) i p)
+            left t' (Some p) (set (rows width n t) i (encode p)) (set (live n t) i p)
             (s.by_rows ∙ scan_goes decode encode transport clock (rows width n t) i (row width t i) (rows_next width n i t h) p (rw (length_rows width n t) h) f)
             (s.by_requests ∙ scan_goes (λ r. r) (λ r. r) transport clock (live n t) i (decode (row width t i)) (live_next n i t h) p (rw (length_live n t) h) f)
             record { words = held width n t₀ t' (set (rows width n t) i (encode p)) rows_after_lem kept_after; holds = set_row.holds }

@@ -1,5 +1,6 @@
 -- What the table's contracts cite besides the list of requests.
-use Rattle.std.specs.Prelude.{ℕ, ◌≤◌, ◌≡◌, List, length}
+use Rattle.request.specs.declared.StunRequestState.{StunRequestState}
+use Rattle.std.specs.Prelude.{ℕ, ◌≤◌, ◌≡◌, List, length, Option}
 use Rattle.rows.specs.Rows.{rows}
 use Rattle.waits.specs.declared.Transport.{Transport}
 use Rattle.records.specs.Coding.{width, size, encode, decode}
@@ -7,7 +8,6 @@ use Rattle.records.specs.Live.{live, Became}
 use Rattle.requests.specs.Search.{keys_of}
 use Rattle.requests.specs.Scan.{Walk, walk_by, walk}
 use Rattle.requests.specs.Formed.{Ascending}
-use Rattle.requests.specs.declared.Transmitted.{Transmitted}
 
 -- A table in which a search makes sense: at most 32 requests, in ascending order of identifier.
 pub record Kept (n : ℕ) (t : List ℕ) : Type 0 where
@@ -20,6 +20,6 @@ abbrev pub walk_rows : Transport → ℕ → List (List ℕ) → Walk (List ℕ)
 walk_rows transport now l = walk_by decode encode transport now l
 
 -- What `poll_transmit` answers, and every word after it.
-pub record Transmits (transport : Transport) (n now : ℕ) (t : List ℕ) (out : Transmitted) (t' : List ℕ) : Type 0 where
+pub record Transmits (transport : Transport) (n now : ℕ) (t : List ℕ) (out : Option StunRequestState) (t' : List ℕ) : Type 0 where
   pub says : out ≡ (walk transport now (live n t)).out
   pub then : Became t t' n (walk_rows transport now (rows width n t)).after (walk transport now (live n t)).after

@@ -1,38 +1,17 @@
 -- The test of settings decides their limits, and what the limits say of the waits.
---     too_many, .., too-long-last    one law for each clause that fails, in the order of the test
---     within_limits_lem                  the test holds exactly where the limits do
+--     within_limits_lem              the test holds exactly where the limits do
 --     default_limits                 the default settings are within them
 --     waits_most, final_most         at most 32 waits, and none is longer than 2^61
 use mathlib.Core.Path.{◌≡◌}
-use mathlib.Core.Bool.{true, false, and-eq-true_iff}
+use mathlib.Core.Bool.{true, and-eq-true_iff}
 use mathlib.Core.Logic.{◌↔◌}
-use Prim.Native.Nat.{ℕ, ◌^◌, ◌≤◌, ◌<◌}
+use Prim.Native.Nat.{ℕ, ◌^◌, ◌≤◌}
 use native.Mathlib.Omega.{arith}
-use lib.Dec.{leb}
-use borrow.Author.Tests.{le-leb, lt-leb, leb-true}
+use borrow.Author.Tests.{le-leb, leb-true}
 use Rattle.waits.specs.Waits.{Limits, within_limits, default_rto, waits_of, wait_of, final_wait}
 use Rattle.waits.specs.declared.RequestRto.{RequestRto}
 use Rattle.waits.specs.declared.Transport.{Transport}
 use Rattle.waits.specs.declared.Transport.TheVariants.{Udp, Tcp}
-
-module _ (s : RequestRto) where
-  pub too_many : 33 < s.retransmits → false ≡ within_limits s
-  unfolding within_limits
-  too_many h = simp (lt-leb _ _ h)
-
-  module _ (count : s.retransmits ≤ 33) where
-    pub too_long_initial : 2 ^ 61 < s.initial → false ≡ within_limits s
-    unfolding within_limits
-    too_long_initial h = simp (le-leb _ _ count, lt-leb _ _ h)
-
-    module _ (initial : s.initial ≤ 2 ^ 61) where
-      pub too_long_max : 2 ^ 61 < s.max → false ≡ within_limits s
-      unfolding within_limits
-      too_long_max h = simp (le-leb _ _ count, le-leb _ _ initial, lt-leb _ _ h)
-
-      pub last_decides : s.max ≤ 2 ^ 61 → leb s.last_retransmit (2 ^ 61) ≡ within_limits s
-      unfolding within_limits
-      last_decides h = simp (le-leb _ _ count, le-leb _ _ initial, le-leb _ _ h)
 
 pub within_limits_lem : (s : RequestRto) → (within_limits s ≡ true) ↔ Limits s
 unfolding within_limits

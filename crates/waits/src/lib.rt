@@ -11,13 +11,13 @@ ghost use Rattle.std.specs.Prelude.{◌≡◌, ◌+◌, ◌^◌, ◌≤◌, ◌<
 ghost use Rattle.waits.specs.Waits.{default_rto, Limits, within_limits, capped, sum_of, steps_of, waits_of, wait_of, final_wait};
 
 // `TransportType` of stun-types.
-#[derive(Clone, Copy)]
+#[derive(Clone, Copy, Debug, PartialEq, Eq)]
 pub enum Transport {
     Udp,
     Tcp,
 }
 
-#[derive(Clone, Copy)]
+#[derive(Clone, Copy, Debug, PartialEq, Eq)]
 pub struct RequestRto {
     pub initial: u64,
     pub max: u64,
@@ -25,77 +25,58 @@ pub struct RequestRto {
     pub last_retransmit: u64,
 }
 
-// 2^61, the longest duration. As a maximum it stands for the Rust's `Duration::MAX`.
-pub const LONGEST: u64 = 2305843009213693952;
+// The longest duration. As a maximum it stands for the Rust's `Duration::MAX`.
+pub const LONGEST: u64 = 1 << 61;
 
-fn least(a: u64, b: u64) -> u64
-    ensures { result ≡ min a b }
-{
-    if a <= b { a } else { b }
-}
+const MILLISECOND: u64 = 1_000_000;
 
-// Twice the wait before it, up to the maximum: capped at each step, so that nothing overflows.
+// The most sends that settings may ask for.
+const MOST_RETRANSMITS: u32 = 33;
+
+// Twice the wait before it, up to the maximum: capped at each step, so that nothing overflows. A recursion on the falling index: the
+// form that document 01 names for it, where `saturating_mul(1 << i)` would do.
 fn wait(initial: u64, max: u64, i: u32) -> u64
     requires { max ≤ 2 ^ 61 }
     ensures { result ≡ capped initial max i }
 {
     if i == 0 {
-        return least(initial, max);
+        return initial.min(max);
     }
     let before = wait(initial, max, i - 1);
-    least(before + before, max)
+    (before + before).min(max)
 }
 
-// `last` and the first n waits together, and 2^61 if that is more.
-fn sum_waits(initial: u64, max: u64, n: u32, last: u64) -> u64
-    requires { (max ≤ 2 ^ 61) × (last ≤ 2 ^ 61) }
-    ensures { result ≡ min (last + sum_of initial max n) (2 ^ 61) }
-{
-    let mut sum = last;
-    let mut i: u32 = 0;
-    while i < n {
-        sum = least(sum + wait(initial, max, i), LONGEST);
-        i += 1;
+impl Default for RequestRto {
+    ghost is_default = { λ rto. rto ≡ default_rto };
+
+    // The Rust's default ends 8 ms after the last send; RFC 8489 has 8,000 ms.
+    #[tactic(auto, unfolding(crate::specs::Waits::default_rto))]
+    fn default() -> Self {
+        Self {
+            initial: 500 * MILLISECOND,
+            max: LONGEST,
+            retransmits: 7,
+            last_retransmit: 8_000 * MILLISECOND,
+        }
     }
-    sum
 }
 
 impl RequestRto {
-    // The Rust's default ends 8 ms after the last send; RFC 8489 has 8,000 ms.
-    pub fn default() -> Self
-        ensures { result ≡ default_rto }
-    {
-        Self {
-            initial: 500000000,
-            max: LONGEST,
-            retransmits: 7,
-            last_retransmit: 8000000000,
-        }
-    }
-
     // Where this is false, the settings are refused by 2.
+    #[tactic(auto, unfolding(crate::specs::Waits::within_limits))]
     pub fn within_limits(self) -> bool
         ensures { result ≡ within_limits self }
     {
-        if self.retransmits > 33 {
-            return false;
-        }
-        if self.initial > LONGEST {
-            return false;
-        }
-        if self.max > LONGEST {
-            return false;
-        }
-        self.last_retransmit <= LONGEST
+        self.retransmits <= MOST_RETRANSMITS
+            && self.initial <= LONGEST
+            && self.max <= LONGEST
+            && self.last_retransmit <= LONGEST
     }
 
     fn steps(self) -> u32
         ensures { result ≡ steps_of self }
     {
-        if self.retransmits == 0 {
-            return 0;
-        }
-        self.retransmits - 1
+        self.retransmits.saturating_sub(1)
     }
 
     pub fn timeouts_len(self, transport: Transport) -> u32
@@ -107,6 +88,8 @@ impl RequestRto {
         }
     }
 
+    // The limits are a clause of these three and no type: settings of any numbers are a `RequestRto`, as a host may write them, and
+    // `within_limits` tests them.
     pub fn timeout(self, i: u32) -> u64
         requires { Limits self × (i < 32) }
         ensures { result ≡ wait_of self i }
@@ -114,13 +97,27 @@ impl RequestRto {
         wait(self.initial, self.max, i)
     }
 
+    // The last wait and all before it together, and 2^61 if that is more.
+    #[tactic(auto, using(crate::proofs::Doubling::sum_none, crate::proofs::Doubling::sum_more))]
+    fn span(self) -> u64
+        requires { Limits self }
+        ensures { result ≡ min (self.last_retransmit + sum_of self.initial self.max (steps_of self)) (2 ^ 61) }
+    {
+        let mut sum = self.last_retransmit;
+        for i in 0..self.steps() {
+            sum = (sum + self.timeout(i)).min(LONGEST);
+        }
+        sum
+    }
+
+    #[tactic(auto, unfolding(crate::specs::Waits::final_wait))]
     pub fn last_retransmit_timeout(self, transport: Transport) -> u64
         requires { Limits self }
         ensures { result ≡ final_wait transport self }
     {
         match transport {
             Transport::Udp => self.last_retransmit,
-            Transport::Tcp => sum_waits(self.initial, self.max, self.steps(), self.last_retransmit),
+            Transport::Tcp => self.span(),
         }
     }
 }

@@ -1,44 +1,61 @@
 // Numbers in network byte order, the first byte heaviest, as STUN messages (RFC 8489, section 5) and traces hold them.
 #![tactic(auto)]
 
-ghost use Rattle.std.specs.Prelude.{◌≡◌, ◌+◌, ◌≤◌, ◌<◌, length};
-ghost use Rattle.wire.specs.Wire.{be16, be32, be64};
+ghost use Rattle.std.specs.Prelude.{◌≡◌, ℕ, ◌+◌, ◌≤◌, List, length};
+ghost use Rattle.wire.specs.Wire.{be16, be32, be64, bytes_at};
 
-fn wide16(x: u8) -> u16
-    ensures { (result ≡ x) × (result < 256) }
+fn bytes_at<const N: usize>(s: &[u8], at: usize) -> [u8; N]
+    requires { at + N ≤ length s.now }
+    ensures { result ≡ bytes_at s.now at N }
 {
-    x as u16
+    s[at..at + N].try_into().unwrap()
 }
 
-fn wide32(x: u16) -> u32
-    ensures { result ≡ x }
-{
-    x as u32
+// A number of so many bytes, and how the bytes from a place on spell it.
+pub trait Number {
+    ghost size: { ℕ };
+
+    ghost spelled: { List ℕ → ℕ → Self };
+
+    fn read(s: &[u8], at: usize) -> Self
+        requires { at + size ≤ length s.now }
+        ensures { result ≡ spelled s.now at };
 }
 
-fn wide64(x: u32) -> u64
-    ensures { result ≡ x }
-{
-    x as u64
+impl Number for u16 {
+    ghost size = { 2 };
+
+    ghost spelled = { be16 };
+
+    fn read(s: &[u8], at: usize) -> u16 {
+        u16::from_be_bytes(bytes_at(s, at))
+    }
 }
 
-pub fn read16(s: &[u8], at: usize) -> u16
-    requires { at + 2 ≤ length s.now }
-    ensures { result ≡ be16 s.now at }
-{
-    wide16(s[at]) * 256 + wide16(s[at + 1])
+impl Number for u32 {
+    ghost size = { 4 };
+
+    ghost spelled = { be32 };
+
+    fn read(s: &[u8], at: usize) -> u32 {
+        u32::from_be_bytes(bytes_at(s, at))
+    }
 }
 
-pub fn read32(s: &[u8], at: usize) -> u32
-    requires { at + 4 ≤ length s.now }
-    ensures { result ≡ be32 s.now at }
-{
-    wide32(read16(s, at)) * 65536 + wide32(read16(s, at + 2))
+impl Number for u64 {
+    ghost size = { 8 };
+
+    ghost spelled = { be64 };
+
+    fn read(s: &[u8], at: usize) -> u64 {
+        u64::from_be_bytes(bytes_at(s, at))
+    }
 }
 
-pub fn read64(s: &[u8], at: usize) -> u64
-    requires { at + 8 ≤ length s.now }
-    ensures { result ≡ be64 s.now at }
+// The number at a place.
+pub fn read<N: Number>(s: &[u8], at: usize) -> N
+    requires { at + N.size ≤ length s.now }
+    ensures { result ≡ N.spelled s.now at }
 {
-    wide64(read32(s, at)) * 4294967296 + wide64(read32(s, at + 4))
+    N::read(s, at)
 }

@@ -1,4 +1,5 @@
 -- A table that passed the test is scanned.
+use native.Mathlib.Omega.{arith}
 use Rattle.std.proofs.Common.{not, ap}
 use Rattle.costs.proofs.Tested.{few, within}
 use Rattle.costs.proofs.transmit.Goals as goal
@@ -8,4 +9,4 @@ poll_transmit-requires c =
     let e = c.is_formed.ensures in
     let p = ap not c.if-not-is_formed.false in
     let a = c.args in
-    (few a.n a.t.now _ e p, c.requires, within a.n a.t.now _ e p)
+    (few a.n a.t.now _ e p, (omega arith), within a.n a.t.now _ e p)

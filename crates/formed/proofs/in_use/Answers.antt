@@ -1,30 +1,16 @@
--- `in_use` meets its contract. The invariant: the test of all requests is the test of those ahead. Assumes nothing.
-use mathlib.Core.Path.{sym, ◌∙◌}
+-- `in_use` meets its contract: `any` tests the requests one by one. Assumes nothing.
+use mathlib.Core.Path.{◌∙◌}
 use native.Mathlib.Omega.{arith}
-use Rattle.records.specs.Live.{live}
-use Rattle.records.proofs.Live.{live_end}
-use Rattle.formed.proofs.Loaded.{loaded_up}
-use Rattle.requests.proofs.Use.{use_next, use_here, use_end}
+use Rattle.std.proofs.Common.{rules, tests}
+use Rattle.std.proofs.lemmas.Iterator.{YieldsList-from_range}
+use Rattle.std.proofs.lemmas.Iterator.Search.{any_from_yields_List}
+use Rattle.rows.specs.Rows.{row}
+use Rattle.records.specs.Coding.{width, decode}
+use Rattle.requests.specs.Use.{has}
+use Rattle.formed.proofs.Loaded.{any_loaded}
 use Rattle.formed.proofs.in_use.Goals as goal
-
-pub returns-then-has_part : goal.returns-then-has_part
-returns-then-has_part c =
-    let a = c.args in
-    let q = c.load-r in
-    let e = loaded_up a.n c.loop-i.i a.t.now q.result q.ensures c.loop-i-test.true in
-    let f = sym c.has_part.ensures ∙ c.if-has_part.true in
-    use_here a.row a.len (live a.n a.t.now) c.loop-i.i c.loop-i.invariant.1 q.result e f
-
-pub loop-i-preserved : goal.loop-i-preserved
-loop-i-preserved c =
-    let a = c.args in
-    let q = c.load-r in
-    let e = loaded_up a.n c.loop-i.i a.t.now q.result q.ensures c.loop-i-test.true in
-    let f = sym c.has_part.ensures ∙ c.if-has_part.false in
-    (omega arith, use_next a.row a.len (live a.n a.t.now) c.loop-i.i c.loop-i.invariant.1 q.result e f)
 
 pub returns : goal.returns
 returns c =
     let a = c.args in
-    let u = c.loop-i in
-    use_end a.row a.len (live a.n a.t.now) u.i u.invariant.1 (live_end a.n u.i a.t.now c.loop-i-test.false)
+    any_from_yields_List (λ i. has a.row a.len (decode (row width a.t.now i))) _ _ _ c.any.ensures.ran (YieldsList-from_range 0 a.n a.n (cc) (omega arith)) (λ x b q k. search (rules, tests)) ∙ any_loaded a.row a.len a.n 0 a.n a.t.now (omega arith)

@@ -1,23 +1,14 @@
--- `lowest` meets its contract. The invariant: the first flag that isn't set is at `row` or behind it. Assumes nothing.
-use mathlib.Core.Bool.{false}
-use native.Mathlib.Omega.{arith}
-use Rattle.formed.proofs.Flags.{lowest_next, lowest_here, lowest_end}
+-- `lowest` meets its contract: the first flag that isn't set is the one that `position` finds. Assumes nothing.
+use mathlib.Core.Bool.{not}
+use mathlib.Core.Path.{◌∙◌}
+use Rattle.std.proofs.Common.{rules, tests}
+use Rattle.std.proofs.lemmas.Iterator.{YieldsList-from_slice}
+use Rattle.std.proofs.lemmas.Iterator.Adapters.{position_from-zero}
+use Rattle.std.proofs.lemmas.Iterator.Search.{position_from_yields_List}
+use Rattle.formed.proofs.Flags.{lowest_is}
 use Rattle.formed.proofs.lowest.Goals as goal
-
-pub returns-then-not-taken-row : goal.returns-then-not-taken-row
-returns-then-not-taken-row c =
-    let a = c.args in
-    let u = c.loop-row in
-    lowest_here a.taken.now u.row false (omega arith) c.if-not-taken-row.true u.invariant.1
-
-pub loop-row-preserved : goal.loop-row-preserved
-loop-row-preserved c =
-    let a = c.args in
-    let u = c.loop-row in
-    (omega arith, lowest_next a.taken.now u.row false (omega arith) c.if-not-taken-row.false u.invariant.1)
 
 pub returns : goal.returns
 returns c =
-    let a = c.args in
-    let u = c.loop-row in
-    lowest_end a.taken.now u.row (omega arith) u.invariant.1
+    let l = c.args.taken.now in
+    position_from_yields_List not _ _ _ c.position.ensures.ran (YieldsList-from_slice l cc) (λ x b q k. search (rules, tests)) ∙ position_from-zero not l ∙ lowest_is 0 l

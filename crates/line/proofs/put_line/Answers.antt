@@ -1,9 +1,13 @@
--- `line::put_line` meets its contract: texts one behind the other.
-use Rattle.line.proofs.Putting.{put_then}
+-- The number, a space, the reply and the line feed, one behind the other.
+use mathlib.Core.Path.{◌∙◌}
+use borrow.Author.Rules.{rules}
+use Rattle.line.proofs.Adding.{adds_then, adds_put}
 use Rattle.line.specs.Lines.{line_of}
 use Rattle.line.proofs.put_line.Goals as goal
 
 pub returns : goal.returns
 unfolding line_of
 returns c =
-    put_then c.put_decimal-a.ensures (put_then c.put-b.ensures (put_then c.put_reply-c.ensures c.put.ensures))
+    let whole = adds_then c.decimal.ensures (adds_then c.byte.ensures (adds_then c.reply.ensures c.byte-2.ensures)) in
+    let same = whole.same ∙ c.new-text.ensures.same in
+    adds_put c.new-text.ensures.bytes c.new-text.ensures.place whole (search rules)

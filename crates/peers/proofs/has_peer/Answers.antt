@@ -1,17 +1,15 @@
--- One peer further, one peer more is known of; all are looked at where there are fewer.
-use Rattle.std.proofs.Common.{◌≡◌, ◌∙◌, ◌<◌, ap, ℕ, take, length, arith}
-use Rattle.peers.specs.Peers.{listed}
-use Rattle.peers.proofs.Scan.{listed_more, take_least}
+-- `peers::has_peer` meets its contract: the chain gives the first n peers, and the closure's test is the definition's.
+use Rattle.std.proofs.Common.{◌∙◌, rules, tests}
+use Rattle.std.proofs.lemmas.Iterator.{YieldsList-from_slice, YieldsList-from_take}
+use Rattle.std.proofs.lemmas.Iterator.Search.{any_from_yields_List}
+use Rattle.address.specs.Address.{same_address}
+use Rattle.address.specs.declared.Address.{Address}
+use Rattle.peers.proofs.Scan.{listed_any}
 use Rattle.peers.proofs.has_peer.Goals as goal
-
-pub loop-i-preserved : goal.loop-i-preserved
-loop-i-preserved c =
-    let room : c.loop-i.i < length c.args.peers.now = omega arith in
-    (omega arith, c.or_same-found.ensures ∙ rw c.loop-i.invariant.1 (listed_more c.args.peers.now c.loop-i.i c.args.a _ room))
 
 pub returns : goal.returns
 returns c =
-    let e : c.loop-i.i ≡ c.lesser-end.result = omega arith in
-    c.loop-i.invariant.1
-    ∙ ap (λ (k : ℕ). listed c.args.a (take k c.args.peers.now)) (e ∙ c.lesser-end.ensures)
-    ∙ ap (listed c.args.a) (take_least c.args.peers.now c.args.n)
+    any_from_yields_List (λ (p : Address). same_address p c.args.a) _ _ _ c.any.ensures.ran
+    (YieldsList-from_take c.args.n (YieldsList-from_slice c.args.peers.now cc) cc)
+    (λ x b q k. search (rules, tests))
+    ∙ listed_any c.args.a _

@@ -1,33 +1,35 @@
--- `table::find` meets its contract. The invariant: looking a key up in all requests is looking it up in the rest, counted from i.
-use native.Mathlib.Omega.{arith}
-use mathlib.Core.Path.{sym, ap, ◌∙◌}
+-- `find` meets its contract: it finds the first request with the key. Assumes nothing.
+use mathlib.Core.Path.{ap, ◌∙◌}
+use mathlib.Core.Bool.{true, false}
+use Rattle.std.proofs.Common.{rules, tests, arith, Some, None}
+use Rattle.std.proofs.lemmas.Iterator.{first_from_Range}
 use Rattle.message.specs.Head.{key}
-use Rattle.message.specs.declared.TransactionId.{TransactionId}
-use Rattle.records.specs.Live.{live}
-use Rattle.records.proofs.Live.{live_next, live_end}
-use lib.Dec.{eqb}
-use Rattle.requests.specs.declared.Found.TheVariants.{At}
-use Rattle.table.proofs.Turns.{lookup_past, lookup_here, lookup_ended}
+use Rattle.request.specs.declared.StunRequestState.{StunRequestState}
+use Rattle.table.proofs.Searches.{IsFirstBelow, HasKey, looked_up, eq_at}
 use Rattle.table.proofs.find.Goals as goal
+use Rattle.table.proofs.find.Goals.{After-find}
 
-pub loop-i-preserved : goal.loop-i-preserved
-loop-i-preserved c =
+-- what the search answered
+first : (c : After-find) → IsFirstBelow (HasKey c.args.t.now (key c.args.id) true) (HasKey c.args.t.now (key c.args.id) false) c.args.n c.find.result
+first c =
     let a = c.args in
-    let i = c.loop-i.i in
     let t = a.t.now in
-    let f = ap (λ (x : TransactionId). eqb (key x) (key a.id)) (sym c.id_at-a.ensures) ∙ sym c.same.ensures ∙ c.if-same.false in
-    (omega arith, c.loop-i.invariant.1 ∙ lookup_past (live a.n t) i _ (live_next a.n i t c.if-n-i.false) (key a.id) f)
+    first_from_Range _ _ _ c.find.result (HasKey t (key a.id) true) (HasKey t (key a.id) false) c.find.ensures.ran
+    (λ x q k. eq_at t (λ j. omega (arith, c.type_inv.t j)) a.id (omega arith) x true (search (rules, tests)))
+    (λ x q k. (search (rules, tests), eq_at t (λ j. omega (arith, c.type_inv.t j)) a.id (omega arith) x false (search (rules, tests))))
 
-pub returns-then-n-i : goal.returns-then-n-i
-returns-then-n-i c =
+pub returns-in_err-i : goal.returns-in_err-i
+returns-in_err-i c =
     let a = c.args in
-    let l = c.loop-i in
-    sym (l.invariant.1 ∙ lookup_ended (live a.n a.t.now) l.i (live_end a.n l.i a.t.now c.if-n-i.true) (key a.id))
+    c.from_residual.ensures ∙ looked_up a.t.now a.n (key a.id) None (rw c.in_err-i.was at (first (goal.at.returns-in_err-i c).After-find))
 
-pub returns-then-same : goal.returns-then-same
-returns-then-same c =
+pub load-requires : goal.load-requires
+load-requires c =
+    let f = rw c.in_ok-i.was at (first (goal.at.load-requires c).After-find) in
+    omega (arith, f.1)
+
+pub returns : goal.returns
+returns c =
     let a = c.args in
-    let i = c.loop-i.i in
-    let t = a.t.now in
-    let f = ap (λ (x : TransactionId). eqb (key x) (key a.id)) (sym c.id_at-a.ensures) ∙ sym c.same.ensures ∙ c.if-same.true in
-    ap (At i) c.load.ensures ∙ sym (c.loop-i.invariant.1 ∙ lookup_here (live a.n t) i _ (live_next a.n i t c.if-n-i.false) (key a.id) f)
+    let f = rw c.in_ok-i.was at (first (goal.at.returns c).After-find) in
+    ap (λ (r : StunRequestState). Some (c.in_ok-i.i, r)) c.load.ensures ∙ looked_up a.t.now a.n (key a.id) (Some c.in_ok-i.i) f

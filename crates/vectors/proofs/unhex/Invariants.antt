@@ -1,9 +1,7 @@
--- Both places stay within their slices, and each turn takes one character.
-use Rattle.std.proofs.Common.{length, ◌-◌, ◌≤◌}
+-- As many bytes as places were passed, and the digits come to an end.
+use Rattle.std.proofs.Common.{◌≡◌}
 use Rattle.vectors.proofs.unhex.Given as goal
 
-abbrev pub invariant-loop-i : goal.invariant-loop-i
-invariant-loop-i l = (l.i ≤ length l.text) × (l.n ≤ length l.out)
-
-abbrev pub decreases-loop-i : goal.decreases-loop-i
-decreases-loop-i l = length l.text - l.i
+abbrev pub invariant-loop-byte : goal.invariant-loop-byte
+invariant-loop-byte l =
+    (l.n ≡ l.byte-index) × (goal.iterator-loop-byte).can_next l.digits × (goal.iterator-loop-byte).is_finite l.digits

@@ -5,6 +5,6 @@ use Rattle.waits.proofs.+wait.Goals as goal
 
 pub returns : goal.returns
 returns t c =
-    c.least-2.ensures
+    c.min-2.ensures
     ∙ ap (λ (b : ℕ). min (b + b) c.args.max) c.wait-before.ensures
     ∙ wait_next c.args.initial c.args.max c.args.i c.if-i-eq0.false

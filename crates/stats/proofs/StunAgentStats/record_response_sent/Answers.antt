@@ -1,7 +1,0 @@
--- `StunAgentStats::record_response_sent` meets its contract: what each call ensures, by congruence. Assumes nothing.
-use Rattle.stats.specs.Count.{counted}
-use Rattle.stats.proofs.StunAgentStats.record_response_sent.Goals as goal
-
-pub returns : goal.returns
-unfolding counted
-returns c = cc

@@ -582,6 +582,7 @@ fn handle_stun_message(
 
 // ---- every call
 
+// The address where a call carries none. `replay` fills places with the same literal, which is not for this function to promise.
 fn nowhere() -> Address
     ensures { result ≡ nowhere }
 {

@@ -69,7 +69,8 @@ impl Unread {
     }
 }
 
-// Where a replay stands, the next line's number, the memory of its agent, and the lines that were put and not written yet.
+// Where a replay stands, the next line's number, the memory of its agent, and the lines that were put and not written yet. Sizes are
+// numbers, since Rattle computes none for an array's type; `out` is no `Unread`: `put_line` writes it at its place, and it goes out whole.
 #[derive(Drop)]
 struct Replay {
     standing: Standing,
@@ -101,7 +102,7 @@ impl Replay {
 
     // All records that stand whole in a part of the trace, while there is room for any line: a turn that was taken can't be taken back.
     // A record that more input could make whole is left, unless there is no more. How many bytes were used; none where no other record
-    // may follow.
+    // may follow. The loop of `replay::lines` ends where a line doesn't fit, and this one before a line might not: two conditions, two loops.
     fn turns(&mut self, part: &[u8], last: bool) -> Option<usize>
         ensures { IfSome result (λ used. used ≤ length part.now) }
     {
@@ -129,7 +130,7 @@ impl Replay {
     }
 }
 
-// One read; every whole record; the lines out; what is left to the front. None at the end.
+// One read; every whole record; the lines out; what is left to the front. None at the end, so that each step can end it by `?`.
 fn round<P: Print + Eprint, R: Read>(
     rt: &P,
     trace: &mut R,

@@ -18,7 +18,7 @@ enum Body {
 }
 
 // What stands at the start of the rest of a trace: settings; a call whose message, perhaps none, goes from `start` to `end`, where the
-// next record starts.
+// next record starts. No `Body` with an end beside it: `record_of` promises this one, and docs/STATEMENTS.md names it.
 #[derive(Clone, Copy, Debug, PartialEq, Eq)]
 pub enum Record {
     Settings {

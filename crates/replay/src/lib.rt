@@ -34,7 +34,7 @@ pub struct Turn {
 pub fn start() -> Standing
     ensures { result ≡ first_standing }
 {
-    // The value of `nowhere` in `agent`, which isn't public: one literal, and not a function for both.
+    // What `nowhere` in `agent` answers too; there it stands for no address, here for a place not in use.
     let nobody = Address {
         host: Host::V4(0),
         port: 0,

@@ -1,5 +1,5 @@
 // The message store that the host lends: 32 rows of 1,024 bytes, a request's bytes at the start of its row. It stands for the Rust's
-// `bytes: Vec<u8>` of each request.
+// `bytes: Vec<u8>` of each request. A slice with a row and a length, and nothing allocated: document 01, "Language forms".
 #![tactic(auto)]
 
 ghost use Rattle.std.specs.Prelude.{◌≡◌, ◌+◌, ◌*◌, ◌≤◌, true, false, length, MatchOption};

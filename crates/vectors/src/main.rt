@@ -87,7 +87,7 @@ fn show<W: Write>(to: &mut W, name: &str, s: &[u8]) -> io::Result<()> {
     )
 }
 
-// The first n bytes with another byte at one place.
+// The first n bytes with another byte at one place: n is no length of the message, since some copies are cut or a byte longer.
 fn show_changed<W: Write>(
     to: &mut W,
     name: &str,

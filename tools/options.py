@@ -43,6 +43,8 @@ ENUMS = {
 }
 REFUSALS = ["State", "Settings", "Clock", "TooLong", "BadMessage", "WrongClass", "InProgress", "TableFull", "NoRequest", "PeersFull", "NoStats", "Counts"]
 CAPITALS = {re.sub(r"(?<!^)(?=[A-Z])", "_", r).upper(): r for r in REFUSALS}
+# definitions of `model` that another one already is, or that got another name
+RENAMED = {"number_in": "refused_by", "on_row": "on_some", "on_message": "on_some", "is_found": "is_some"}
 # what answers a refusal, and so a number before
 REFUSING = r"(?:refusals\.)?(?:refusal_of|refusal_past|refusal_in|refused_by)"
 # a goal's arm by its variant
@@ -195,7 +197,8 @@ class File:
                 continue
             for old, new in CAPITALS.items():
                 line = re.sub(rf"(?<![\w.]){old}(?![\w])", new, line)
-            line = re.sub(r"(?<![\w.])number_in(?!\w)", "refused_by", line)
+            for old, new in RENAMED.items():
+                line = re.sub(rf"(?<![\w.]){old}(?!\w)", new, line)
             line = re.sub(rf"((?<![\w.]){REFUSING}(?: (?:\((?:[^()]|\((?:[^()]|\([^()]*\))*\))*\)|[\w.'\[\]-]+))* ≡ )(?:0\b|number_of (\w+))", lambda m: m[1] + (f"Some {m[2]}" if m[2] else "None"), line)
             line = re.sub(r"eqb \((refused_by \w+|refusal_of (?:[\w.]+|\((?:[^()]|\([^()]*\))*\))(?: (?:[\w.\[\]]+|\((?:[^()]|\([^()]*\))*\)))*)\) 0", r"is_none (\1)", line)
             if re.search(rf"{REFUSING}.* ≡ suc n\b|answer\.Refused (?:\(suc n\)|n\b)", line):

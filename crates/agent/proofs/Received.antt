@@ -25,8 +25,8 @@ use Rattle.requests.proofs.Lists.{neither, apart}
 use Rattle.requests.proofs.Search.{found_at, placed_within}
 use Rattle.records.specs.Live.{live}
 use Rattle.model.specs.World.{World, known}
-use Rattle.model.specs.Calls.{Kind, carries, receives}
-use Rattle.model.specs.Accepts.{new_peer, on_message, is_response, accepts}
+use Rattle.model.specs.Calls.{Kind, carries, receives, on_some}
+use Rattle.model.specs.Accepts.{new_peer, is_response, accepts}
 use Rattle.model.specs.Refusals.{refusal_past}
 use Rattle.model.specs.Effects.{Change, keeps, removes, answered, received_as, rtt_at, yes_or_no, count_after, change_of, answer_of, event_by}
 use Rattle.model.specs.declared.StunAgent.{StunAgent}
@@ -124,13 +124,13 @@ module _ (a : StunAgent) (t : List ℕ) (from : Address) (y : Contact) (c : Opti
       number_is h b i = past_receives 32 w m from c ∙ rw (early, g, sender_new h, fits, by_new y.known from false (leb y.places a.peers), i)
 
       change_is : (d : Change) → answered reqs from x ≡ d → change_of 32 w reception m ≡ d
-      change_is d i = change_receives 32 w m from c ∙ (ap (λ (p : Option Message). on_message p keeps (answered reqs from)) g ∙ i)
+      change_is d i = change_receives 32 w m from c ∙ (ap (λ (p : Option Message). on_some p keeps (answered reqs from)) g ∙ i)
 
       answer_is : (b : Bool) → accepts reqs from x ≡ b → answer_of 32 w reception m ≡ yes_or_no b
       answer_is b h = answer_receives 32 w m from c ∙ rw (g, h)
 
       event_is : event_by w reception m ≡ counts reqs from x (length m) c
-      event_is = ap (λ (p : Option Message). on_message p event.Nothing (λ z. counts reqs from z (length m) c)) g
+      event_is = ap (λ (p : Option Message). on_some p event.Nothing (λ z. counts reqs from z (length m) c)) g
 
       -- The agent at the clock has the agent's peers.
       full : accepts reqs from x ≡ true → (q : Refusal) → admitted y next ≡ Err q → Done t (refused_with a q)

@@ -32,7 +32,6 @@ use Rattle.records.specs.Coding.{width, size, encode}
 use Rattle.records.specs.Live.{live, Became}
 use Rattle.records.proofs.Live.{length_live}
 use Rattle.model.specs.Calls.{Kind, carries, submits, on_some}
-use Rattle.model.specs.Accepts.{is_found, is_outstanding}
 use Rattle.model.specs.Refusals.{is_request, refusal_past}
 use Rattle.model.specs.Effects.{keeps, adds, handed_out, new_request, change_of, answer_of, stored_by}
 use Rattle.model.specs.World.{World}
@@ -43,16 +42,6 @@ use Rattle.agent.specs.Ready.{world_of, Lent}
 use Rattle.agent.specs.Called.{called_of, refused_with, noted, moved, TableAfter, Submits, is_late, at_clock}
 use Rattle.agent.proofs.Model.{refused_keeps, done_changes, refuses, performs}
 use Rattle.agent.proofs.Table.{late_is, in_time_is}
-
--- ---- whether the identifier is outstanding
-
-found_by : (f : Option (ℕ × StunRequestState)) → is_some f ≡ true → is_found f ≡ true
-found_by (Some (i, q)) e = refl
-found_by None e = e
-
-idle_by : (f : Option (ℕ × StunRequestState)) → is_some f ≡ false → is_found f ≡ false
-idle_by (Some (i, q)) e = e
-idle_by None e = refl
 
 -- ---- the ways
 
@@ -98,17 +87,14 @@ module _ (a : StunAgent) (t : List ℕ) (to : Address) (now : ℕ) (m store : Li
         module _ (class : is_request x.class ≡ true) where
           pub submits_busy : is_some (lookup (key x.transaction_id) reqs) ≡ true → Submits w to now m t t store (refused_with a InProgress)
           submits_busy e =
-              turned_down InProgress (past_submits 32 w m to now ∙ rw (early, in_row, reads, class, found_by (lookup (key x.transaction_id) reqs) e))
+              turned_down InProgress (past_submits 32 w m to now ∙ rw (early, in_row, reads, class, e))
 
           module _ (lent : Lent a t) (new : is_some (lookup (key x.transaction_id) reqs) ≡ false) where
-            idle : is_outstanding reqs x.transaction_id ≡ false
-            idle = idle_by (lookup (key x.transaction_id) reqs) new
-
             pub submits_full : free_row 32 reqs ≡ None → Submits w to now m t t store (refused_with a TableFull)
             submits_full e =
                 let h = (full_count 32 reqs a.mark lent.requests.apart lent.requests.within).0 e in
                 let none_left = le-leb 32 (length reqs) (omega arith) in
-                turned_down TableFull (past_submits 32 w m to now ∙ rw (early, in_row, reads, class, idle, none_left))
+                turned_down TableFull (past_submits 32 w m to now ∙ rw (early, in_row, reads, class, new, none_left))
 
             module _ (row : ℕ) (free : free_row 32 reqs ≡ Some row) where
               abbrev the_request : StunRequestState
@@ -117,7 +103,7 @@ module _ (a : StunAgent) (t : List ℕ) (to : Address) (now : ℕ) (m store : Li
               passes : refusal_past 32 w submission_of m ≡ None
               passes =
                   let h = free_fewer 32 reqs a.mark lent.requests.apart lent.requests.within row free in
-                  past_submits 32 w m to now ∙ rw (early, in_row, reads, class, idle, lt-leb 32 (length reqs) h)
+                  past_submits 32 w m to now ∙ rw (early, in_row, reads, class, new, lt-leb 32 (length reqs) h)
 
               sent : (t' store' : List ℕ) (q : StunRequestState) → q ≡ the_request
                   → TableAfter a.transport (adds q) a.requests t t' → store' ≡ copied 32 store q.row m

@@ -663,7 +663,8 @@ fn perform(
 }
 
 // Any call, of an agent and what the host lends, but for the peers and the record: `known` says whether the call's address is a peer,
-// `was` is the record. They are parameters of their own, as `entry` has them and docs/STATEMENTS.md names them. What is left to do is in the answer: the event to count, and the place of a new peer.
+// `was` is the record. They are parameters of their own, as `entry` has them and docs/STATEMENTS.md names them. What is left to do is in
+// the answer: the event to count, and the place of a new peer.
 pub fn dispatch(
     agent: StunAgent,
     call: Call,

@@ -1,6 +1,6 @@
 // Questions that change nothing in the table: which row of the store is free, whether a row is in use, and whether the requests are well
-// formed. Where rows are flagged, the loop goes down the table: it knows the flags of the requests behind the one that it reads. Words and count are two parameters, as in
-// `table`, which says why.
+// formed. Where rows are flagged, the loop goes down the table: it knows the flags of the requests behind the one that it
+// reads. Words and count are two parameters, as in `table`, which says why.
 #![tactic(auto)]
 
 ghost use Rattle.std.specs.Prelude.{◌≡◌, ◌≤◌, length};

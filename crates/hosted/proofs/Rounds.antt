@@ -14,8 +14,8 @@ use Rattle.message.specs.Attributes.{message_of}
 use Rattle.message.specs.declared.Message.{Message}
 use Rattle.stats.specs.declared.StunAgentStats.{StunAgentStats}
 use Rattle.model.specs.World.{World}
-use Rattle.model.specs.Calls.{submits as submits-to, sends, receives, Kind, carries, scans, names, meets, counts}
-use Rattle.model.specs.Accepts.{on_message, is_response, accepts}
+use Rattle.model.specs.Calls.{submits as submits-to, sends, receives, Kind, carries, scans, names, meets, counts, on_some}
+use Rattle.model.specs.Accepts.{is_response, accepts}
 use Rattle.model.specs.Refusals.{refusal_of}
 use Rattle.model.specs.Effects.{yes_or_no, passage_answer}
 use Rattle.model.specs.Says.{refused_by, says_of}
@@ -86,9 +86,9 @@ module _ (rows x : ℕ) (w : World) (m : List ℕ) where
   refused_touches q (counts f) = refl
 
   received : (from : Address) (p : Option Message)
-      → (is_yes (on_message p answer.No (λ y. yes_or_no (accepts w.requests from y)))
-      && on_message p false (λ y. is_response y.class && eqb (key y.transaction_id) x))
-      ≡ on_message p false (answers_to x w.requests from)
+      → (is_yes (on_some p answer.No (λ y. yes_or_no (accepts w.requests from y)))
+      && on_some p false (λ y. is_response y.class && eqb (key y.transaction_id) x))
+      ≡ on_some p false (answers_to x w.requests from)
   received from (Some y) = go (accepts w.requests from y)
     where
       go : (b : Bool) → (is_yes (yes_or_no b) && (is_response y.class && eqb (key y.transaction_id) x))

@@ -3,8 +3,7 @@ use Rattle.std.specs.Prelude.{ℕ, ◌≤◌, ◌≡◌, Bool, true, false, ◌&
 use Rattle.message.specs.Head.{key}
 use Rattle.message.specs.Attributes.{message_of}
 use Rattle.stats.specs.declared.StunAgentStats.{StunAgentStats}
-use Rattle.model.specs.Calls.{submits as submits-to, sends, receives, Kind, carries, scans, names, meets, counts}
-use Rattle.model.specs.Accepts.{on_message}
+use Rattle.model.specs.Calls.{submits as submits-to, sends, receives, Kind, carries, scans, names, meets, counts, on_some}
 use Rattle.model.specs.Says.{refused_by}
 use Rattle.model.specs.Runs.{Turn}
 use Rattle.model.specs.declared.StunAgentBuilder.{StunAgentBuilder}
@@ -41,7 +40,7 @@ pub data Played : List Step → List Turn → List Answer → Type 0 where
 
 -- "Answered, cancelled in either way, reconfigured or submitted again": what a call did to x, by its answer.
 abbrev pub touches : ℕ → Kind → List ℕ → Answer → Bool
-touches x (carries (submits-to to now)) m a = is_none (refused_by a) && on_message (message_of m) false (λ y. eqb (key y.transaction_id) x)
+touches x (carries (submits-to to now)) m a = is_none (refused_by a) && on_some (message_of m) false (λ y. eqb (key y.transaction_id) x)
 touches x (carries (sends to)) m a = false
 touches x (carries (receives from clock)) m a = is_yes a && responds_to x m
 touches x (scans s now) m a = false

@@ -63,7 +63,8 @@ impl<'a> Text<'a> {
         self.bytes(Buffer::new().format(n).as_bytes());
     }
 
-    // The last k hexadecimal digits of n. A recursion, as `digits` of specs/ is: a loop would say the same of what is left, and is no plainer.
+    // The last k hexadecimal digits of n. A recursion, as `digits` of specs/ is: a loop would say the same of what is left, and is no
+    // plainer.
     fn hex(&mut self, k: usize, n: u64)
         ensures { Adds self.old (digits 16 k n) self.new }
     {

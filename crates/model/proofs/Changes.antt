@@ -5,7 +5,7 @@
 --     changed_formed, changed_count    a change that fits keeps the requests well formed, and their number
 use Rattle.model.specs.declared.Refusal.{Refusal}
 use Rattle.model.specs.declared.Refusal.TheVariants.{Settings, Clock, TooLong, InProgress, PeersFull}
-use Rattle.std.specs.Prelude.{None, Some, Option, slice_get}
+use Rattle.std.specs.Prelude.{None, Some, Option, slice_get, is_some}
 use Prim.Native.Nat.{ℕ, ◌+◌, ◌^◌, ◌≤◌, ◌<◌}
 use mathlib.Core.Path.{◌≡◌, refl, sym, ap, ◌∙◌}
 use mathlib.Core.Bool.{Bool, true, false, cond, not, ◌||◌}
@@ -43,9 +43,9 @@ use Rattle.requests.proofs.Polls.{Says, poll_says}
 use Rattle.requests.proofs.Kept.{formed_later, formed_added, formed_removed, formed_set, formed_walk}
 use Rattle.model.specs.World.{World, StateFormed}
 use Rattle.model.specs.Calls.{submits, sends, receives, transmits, reports, Wish, silence, cancel, configure, query, Kind, carries, scans, names, meets, counts, clock_of, wish_settings, on_some}
-use Rattle.model.specs.Accepts.{on_message, is_found, is_outstanding, is_response, accepts, new_peer}
+use Rattle.model.specs.Accepts.{is_outstanding, is_response, accepts, new_peer}
 use Rattle.model.specs.Refusals.{holds}
-use Rattle.model.specs.Effects.{on_found, on_row, Change, keeps, adds, removes, sets, steps, changed, count_after, new_request, taken, answered, reported, wished, change_of, mark_after}
+use Rattle.model.specs.Effects.{on_found, Change, keeps, adds, removes, sets, steps, changed, count_after, new_request, taken, answered, reported, wished, change_of, mark_after}
 
 -- ---- what a change has to be
 
@@ -82,7 +82,7 @@ module _ (mark : ℕ) where
 
 -- ---- a call that isn't refused
 
-not_found : (f : Option (ℕ × StunRequestState)) → is_found f ≡ false → f ≡ None
+not_found : (f : Option (ℕ × StunRequestState)) → is_some f ≡ false → f ≡ None
 not_found f e = grind arith
 
 module _ (rows : ℕ) (w : World) (k : Kind) (m : List ℕ) (passes : (r : Refusal) → holds rows w k m r ≡ false) where
@@ -125,12 +125,12 @@ module _ (rows : ℕ) (w : World) (m : List ℕ) (formed : StateFormed rows w) w
 
       with_row : (x : Message) → message_of m ≡ Some x → is_outstanding w.requests x.transaction_id ≡ false
           → (f : Option ℕ) → free_row rows w.requests ≡ f
-          → Fits rows now w.requests m (on_some (on_row f None (λ row. Some (submitted now x.transaction_id x.integrity row (length m) to w.agent.rto))) keeps adds)
+          → Fits rows now w.requests m (on_some (on_some f None (λ row. Some (submitted now x.transaction_id x.integrity row (length m) to w.agent.rto))) keeps adds)
       with_row x e n (Some row) f = joins x row e n f
       with_row x e n None f = tt
 
-      go : (p : Option Message) → message_of m ≡ p → on_message p false (λ x. is_outstanding w.requests x.transaction_id) ≡ false
-          → Fits rows now w.requests m (on_some (on_message p None (λ x. on_row (free_row rows w.requests) None (λ row. Some (submitted now x.transaction_id x.integrity row (length m) to w.agent.rto)))) keeps adds)
+      go : (p : Option Message) → message_of m ≡ p → on_some p false (λ x. is_outstanding w.requests x.transaction_id) ≡ false
+          → Fits rows now w.requests m (on_some (on_some p None (λ x. on_some (free_row rows w.requests) None (λ row. Some (submitted now x.transaction_id x.integrity row (length m) to w.agent.rto)))) keeps adds)
       go (Some x) e n = with_row x e n (free_row rows w.requests) refl
       go None e n = tt
 
@@ -147,7 +147,7 @@ module _ (rows : ℕ) (w : World) (m : List ℕ) (formed : StateFormed rows w) w
       go true false = tt
       go false b = tt
 
-  receive_fits : (later : ℕ) (from : Address) (p : Option Message) → Fits rows later w.requests m (on_message p keeps (answered w.requests from))
+  receive_fits : (later : ℕ) (from : Address) (p : Option Message) → Fits rows later w.requests m (on_some p keeps (answered w.requests from))
   receive_fits later from (Some x) = answer_fits later from x
   receive_fits later from None = tt
 

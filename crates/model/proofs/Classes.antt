@@ -32,7 +32,7 @@ use Rattle.requests.specs.Search.{lookup, free_row}
 use Rattle.requests.specs.Scan.{walk, poll_all}
 use Rattle.model.specs.World.{World, StateFormed, state_formed, known}
 use Rattle.model.specs.Calls.{submits, sends, receives, Scan, transmits, reports, Wish, Meeting, Figure, Kind, carries, scans, names, meets, counts, on_some}
-use Rattle.model.specs.Accepts.{on_message, validated, new_peer}
+use Rattle.model.specs.Accepts.{validated, new_peer}
 use Rattle.model.specs.Refusals.{bad_settings, bad_clock, too_long, bad_message, wrong_class, in_progress, table_full, no_request, peers_full, no_stats, bad_counts, refusal_of, refusal_past}
 use Rattle.model.specs.Effects.{on_found, Change, keeps, adds, steps, changed, new_request, answered, reported, wished, change_of, handed_out, passage_answer, transmit_answer, poll_answer, wish_answer, meeting_answer, figure_answer, answer_of, event_by, event_of, stored_by, peers_after, peer_count, mark_after, count_after, after, agent_after}
 use Rattle.model.specs.Says.{Said, says_of}
@@ -158,7 +158,7 @@ module _ (rows : ℕ) (w : World) (m : List ℕ) where
   unfolding change_of
   change_sends to = refl
 
-  pub change_receives : (from : Address) (clock : Option ℕ) → change_of rows w (carries (receives from clock)) m ≡ on_message (message_of m) keeps (answered w.requests from)
+  pub change_receives : (from : Address) (clock : Option ℕ) → change_of rows w (carries (receives from clock)) m ≡ on_some (message_of m) keeps (answered w.requests from)
   unfolding change_of
   change_receives from clock = refl
 

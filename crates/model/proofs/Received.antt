@@ -9,7 +9,7 @@
 --     validated_known, sender_validated     every accepted message validates its sender
 --     known_kept                            a peer stays one, whatever the call
 use Rattle.model.specs.declared.Refusal.{Refusal}
-use Rattle.std.specs.Prelude.{None, Some, Option}
+use Rattle.std.specs.Prelude.{None, Some, Option, is_some}
 use Prim.Native.Nat.{ℕ}
 use mathlib.Core.Path.{◌≡◌, refl, sym, ap, ◌∙◌}
 use mathlib.Core.Bool.{Bool, true, false}
@@ -33,7 +33,7 @@ use Rattle.requests.proofs.Search.{lookup_taken, lookup_taken_other}
 use Rattle.peers.specs.Peers.{listed}
 use Rattle.model.specs.World.{World, StateFormed, known}
 use Rattle.model.specs.Calls.{receives, Kind, carries}
-use Rattle.model.specs.Accepts.{is_found, is_response, accepts, validated, new_peer}
+use Rattle.model.specs.Accepts.{is_response, accepts, validated, new_peer}
 use Rattle.model.specs.Refusals.{refusal_of}
 use Rattle.model.specs.Effects.{Change, keeps, removes, answered, changed, change_of, answer_of, event_of, mark_after, peers_after, peer_count, after}
 use Rattle.model.specs.Says.{Said, says_of}
@@ -48,7 +48,7 @@ module _ (l : List StunRequestState) (from : Address) (x : Message) where
   unfolding accepts
   plain_accepted e = rw e
 
-  pub answer_accepted : is_response x.class ≡ true → (f : Option (ℕ × StunRequestState)) → lookup (key x.transaction_id) l ≡ f → accepts l from x ≡ is_found f
+  pub answer_accepted : is_response x.class ≡ true → (f : Option (ℕ × StunRequestState)) → lookup (key x.transaction_id) l ≡ f → accepts l from x ≡ is_some f
   unfolding accepts
   answer_accepted e f g = rw (e, g)
 

@@ -32,7 +32,6 @@ use Rattle.requests.proofs.Search.{found_at, lookup_added}
 use Rattle.requests.proofs.Free.{free_row_lem, free_exists}
 use Rattle.model.specs.World.{World, StateFormed, state_formed}
 use Rattle.model.specs.Calls.{submits, Kind, carries, passage_of, on_some}
-use Rattle.model.specs.Accepts.{on_message}
 use Rattle.model.specs.Refusals.{is_request, is_submitted, holds, refusal_of}
 use Rattle.model.specs.Effects.{adds, new_request, change_of, answer_of, stored_by, after}
 use Rattle.model.specs.Says.{Said, says_of}
@@ -86,7 +85,7 @@ pub record RequestAccepted (rows : ℕ) (w : World) (to : Address) (now : ℕ) (
   pub room : length s.world.store ≡ length w.store
   pub other_bytes : (i : ℕ) → (i < row * 1024) ⊎ (row * 1024 + length m ≤ i) → get_or s.world.store i 0 ≡ get_or w.store i 0
 
-good : (p : Option Message) → on_message p true (λ x. false) ≡ false → (x : Message) × (p ≡ Some x)
+good : (p : Option Message) → on_some p true (λ x. false) ≡ false → (x : Message) × (p ≡ Some x)
 good (Some x) e = (x, refl)
 good None e = absurd cc
 

@@ -1,5 +1,5 @@
 -- Which received messages are accepted, and whose address a call validates: document 01, "The agent".
-use Rattle.std.specs.Prelude.{ℕ, Bool, true, false, cond, not, ◌||◌, List, Option, None, Some}
+use Rattle.std.specs.Prelude.{ℕ, Bool, true, false, cond, not, ◌||◌, List, Option, None, Some, is_some}
 use Rattle.address.specs.declared.Address.{Address}
 use Rattle.message.specs.Head.{key}
 use Rattle.message.specs.Attributes.{message_of}
@@ -12,18 +12,9 @@ use Rattle.requests.specs.Search.{lookup}
 use Rattle.model.specs.World.{World, known}
 use Rattle.model.specs.Calls.{Passage, submits, sends, receives, Meeting, ask, validate, Kind, carries, scans, names, meets, counts, on_some}
 
--- A choice by the message that was read, if it wasn't bad.
-abbrev pub on_message : {B : Type 0} → Option Message → B → (Message → B) → B
-on_message (Some x) b f = f x
-on_message None b f = b
-
 -- Whether an identifier is outstanding.
-abbrev pub is_found : Option (ℕ × StunRequestState) → Bool
-is_found (Some (place, request)) = true
-is_found None = false
-
 abbrev pub is_outstanding : List StunRequestState → TransactionId → Bool
-is_outstanding l id = is_found (lookup (key id) l)
+is_outstanding l id = is_some (lookup (key id) l)
 
 abbrev pub is_response : MessageClass → Bool
 is_response Request = false
@@ -39,7 +30,7 @@ accepts l from x = not (is_response x.class) || is_outstanding l x.transaction_i
 abbrev pub sender : World → List ℕ → Passage → Option Address
 sender w m (submits to now) = None
 sender w m (sends to) = None
-sender w m (receives from clock) = on_message (message_of m) None (λ x. cond (accepts w.requests from x) (Some from) None)
+sender w m (receives from clock) = on_some (message_of m) None (λ x. cond (accepts w.requests from x) (Some from) None)
 
 abbrev pub met : Address → Meeting → Option Address
 met a ask = None

@@ -23,19 +23,15 @@ use Rattle.requests.specs.declared.Polled.{Polled}
 use Rattle.requests.specs.declared.Polled.TheVariants.{TimedOut, Cancelled, WaitUntil}
 use Rattle.model.specs.World.{World, known}
 use Rattle.model.specs.Calls.{Passage, submits, sends, receives, Scan, transmits, reports, Wish, silence, cancel, configure, query, Meeting, ask, validate, Figure, numbers, mean, unsettled, anew, Kind, carries, scans, names, meets, counts, clock_of, on_some}
-use Rattle.model.specs.Accepts.{on_message, is_response, accepts, new_peer}
+use Rattle.model.specs.Accepts.{is_response, accepts, new_peer}
 use Rattle.model.specs.declared.StunAgent.{StunAgent}
 use Rattle.model.specs.declared.Answer.{Answer}
 use Rattle.model.specs.declared.Answer.TheVariants as answer
 
--- A choice by the request that was found, with its place, and by the row that is free.
+-- A choice by the request that was found, with its place.
 abbrev pub on_found : {B : Type 0} → Option (ℕ × StunRequestState) → B → (ℕ → StunRequestState → B) → B
 on_found (Some (place, r)) b f = f place r
 on_found None b f = b
-
-abbrev pub on_row : {B : Type 0} → Option ℕ → B → (ℕ → B) → B
-on_row (Some row) b f = f row
-on_row None b f = b
 
 -- ---- the outstanding requests
 
@@ -64,8 +60,8 @@ count_after (steps now) n = n
 -- The request that `send_request` adds: it "takes the lowest free" row, and has the agent's settings.
 unfoldable pub new_request : ℕ → World → Address → ℕ → List ℕ → Option StunRequestState
 new_request rows w to now m =
-    on_message (message_of m) None (λ x.
-    on_row (free_row rows w.requests) None (λ row.
+    on_some (message_of m) None (λ x.
+    on_some (free_row rows w.requests) None (λ row.
     Some (submitted now x.transaction_id x.integrity row (length m) to w.agent.rto)))
 
 abbrev pub taken : Option (ℕ × StunRequestState) → Change
@@ -80,7 +76,7 @@ answered l from x =
 abbrev pub passage_change : ℕ → World → List ℕ → Passage → Change
 passage_change rows w m (submits to now) = on_some (new_request rows w to now m) keeps adds
 passage_change rows w m (sends to) = keeps
-passage_change rows w m (receives from clock) = on_message (message_of m) keeps (answered w.requests from)
+passage_change rows w m (receives from clock) = on_some (message_of m) keeps (answered w.requests from)
 
 -- `poll` "answers with the first request in identifier order that timed out or was cancelled, and removes it".
 abbrev pub reported : Polled → Change
@@ -119,7 +115,7 @@ abbrev pub passage_answer : ℕ → World → List ℕ → Passage → Answer
 passage_answer rows w m (submits to now) = on_some (new_request rows w to now m) answer.None handed_out
 passage_answer rows w m (sends to) = answer.Ok
 passage_answer rows w m (receives from clock) =
-    on_message (message_of m) answer.No (λ x. yes_or_no (accepts w.requests from x))
+    on_some (message_of m) answer.No (λ x. yes_or_no (accepts w.requests from x))
 
 abbrev pub transmit_answer : Option StunRequestState → Answer
 transmit_answer (Some r) = handed_out r
@@ -179,9 +175,9 @@ received_as n rtt Error = event.ResponseReceived n rtt
 
 abbrev pub passage_event : World → List ℕ → Passage → Event
 passage_event w m (submits to now) = event.RequestSent (length m)
-passage_event w m (sends to) = on_message (message_of m) event.Nothing (λ x. sent_as (length m) x.class)
+passage_event w m (sends to) = on_some (message_of m) event.Nothing (λ x. sent_as (length m) x.class)
 passage_event w m (receives from clock) =
-    on_message (message_of m) event.Nothing (λ x.
+    on_some (message_of m) event.Nothing (λ x.
     cond (accepts w.requests from x)
     (received_as (length m) (rtt_at clock (lookup (key x.transaction_id) w.requests)) x.class)
     event.Nothing)

@@ -10,7 +10,7 @@ use Rattle.waits.specs.Waits as waits
 use Rattle.stats.specs.Query.{outstanding_of}
 use Rattle.model.specs.World.{World, state_formed}
 use Rattle.model.specs.Calls.{Passage, submits, sends, receives, Figure, numbers, mean, unsettled, anew, Kind, kind_of, clock_of, settings_of, id_of, passage_of, figure_of, on_some}
-use Rattle.model.specs.Accepts.{on_message, is_outstanding, new_peer}
+use Rattle.model.specs.Accepts.{is_outstanding, new_peer}
 use Rattle.model.specs.declared.Call.{Call}
 
 -- The number that document 01 gives each.
@@ -51,7 +51,7 @@ too_long k m = on_some (passage_of k) false (λ p. is_submitted p && ltb 1024 (l
 
 -- 5: "the bytes break a rule" of the message head and its attributes
 abbrev pub bad_message : Kind → List ℕ → Bool
-bad_message k m = on_some (passage_of k) false (λ p. on_message (message_of m) true (λ x. false))
+bad_message k m = on_some (passage_of k) false (λ p. on_some (message_of m) true (λ x. false))
 
 abbrev pub is_request : MessageClass → Bool
 is_request Request = true
@@ -66,12 +66,12 @@ wrong_for (receives from clock) class = false
 
 -- 6: "`send_request` with another class; `send` with a request"
 abbrev pub wrong_class : Kind → List ℕ → Bool
-wrong_class k m = on_some (passage_of k) false (λ p. on_message (message_of m) false (λ x. wrong_for p x.class))
+wrong_class k m = on_some (passage_of k) false (λ p. on_some (message_of m) false (λ x. wrong_for p x.class))
 
 -- 7: "`send_request` of an identifier outstanding"
 abbrev pub in_progress : World → Kind → List ℕ → Bool
 in_progress w k m =
-    on_some (passage_of k) false (λ p. is_submitted p && on_message (message_of m) false (λ x. is_outstanding w.requests x.transaction_id))
+    on_some (passage_of k) false (λ p. is_submitted p && on_some (message_of m) false (λ x. is_outstanding w.requests x.transaction_id))
 
 -- 8: "`send_request` while 32 requests are outstanding"
 abbrev pub table_full : ℕ → World → Kind → Bool

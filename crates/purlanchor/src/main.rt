@@ -102,7 +102,8 @@ impl Replay {
 
     // All records that stand whole in a part of the trace, while there is room for any line: a turn that was taken can't be taken back.
     // A record that more input could make whole is left, unless there is no more. How many bytes were used; none where no other record
-    // may follow. The loop of `replay::lines` ends where a line doesn't fit, and this one before a line might not: two conditions, two loops.
+    // may follow. The loop of `replay::lines` ends where a line doesn't fit, and this one before a line might not: two conditions, two
+    // loops.
     fn turns(&mut self, part: &[u8], last: bool) -> Option<usize>
         ensures { IfSome result (λ used. used ≤ length part.now) }
     {

@@ -131,8 +131,9 @@ impl StunRequestState {
         self.timeout_i >= self.rto.timeouts_len(transport)
     }
 
-    // This and the two polls ask for the limits by a clause and no type: a record is read of words that a host may have made, and the table's
-    // clause says of all of them at once that they are within. A type would be built from that clause before each call, and is no plainer.
+    // This and the two polls ask for the limits by a clause and no type: a record is read of words that a host may have made, and the
+    // table's clause says of all of them at once that they are within. A type would be built from that clause before each call, and is
+    // no plainer.
     #[tactic(auto, unfolding(crate::specs::Times::next_of, crate::specs::Times::is_over, crate::specs::Times::moment_of, crate::specs::Times::due_of, crate::specs::Times::end_of, crate::specs::Times::passed_all), using(crate::proofs::Limits::wait_bounds))]
     pub fn next_send_time(self, transport: Transport, now: u64) -> Option<u64>
         requires { RequestLimits 32 (2 ^ 60) self }

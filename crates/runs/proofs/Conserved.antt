@@ -29,8 +29,8 @@ use Rattle.requests.proofs.Polls.{Says, poll_says}
 use Rattle.stats.specs.Query.{outstanding_of, outstanding_count}
 use Rattle.stats.proofs.Query.{not_below_zero}
 use Rattle.model.specs.World.{World}
-use Rattle.model.specs.Calls.{submits, sends, receives, transmits, reports, Wish, silence, cancel, configure, query, unsettled, Kind, carries, scans, names, meets, counts}
-use Rattle.model.specs.Accepts.{on_message, is_response, accepts}
+use Rattle.model.specs.Calls.{submits, sends, receives, transmits, reports, Wish, silence, cancel, configure, query, unsettled, Kind, carries, scans, names, meets, counts, on_some}
+use Rattle.model.specs.Accepts.{is_response, accepts}
 use Rattle.model.specs.Refusals.{is_request, refusal_of}
 use Rattle.model.specs.Effects.{on_found, keeps, changed, taken, answered, reported, wished, yes_or_no, poll_answer}
 use Rattle.model.specs.Says.{says_of}
@@ -59,8 +59,8 @@ Keeps e l l' = requests_sent e + length l ≡ settles e + length l'
 
 module _ (from : Address) (clock : Option ℕ) (m : List ℕ) (t : Transport) (l : List StunRequestState) where
   received_keeps : (p : Option Message) → message_of m ≡ p
-      → Keeps (seen (carries (receives from clock)) m (on_message p answer.No (λ x. yes_or_no (accepts l from x)))) l
-      (changed t (on_message p keeps (answered l from)) l)
+      → Keeps (seen (carries (receives from clock)) m (on_some p answer.No (λ x. yes_or_no (accepts l from x)))) l
+      (changed t (on_some p keeps (answered l from)) l)
   received_keeps None e = refl
   received_keeps (Some x) e = go (accepts l from x) refl (is_response x.class) refl
     where
@@ -98,8 +98,8 @@ module _ (rows : ℕ) (w : World) (m : List ℕ) where
       rw (d.requests, d.answer, answer_sends rows w m to, change_sends rows w m to)
       (go (message_of m) ((passed_exactly rows w (carries (sends to)) m).0 e WrongClass))
     where
-      go : (p : Option Message) → on_message p false (λ x. is_request x.class) ≡ false
-          → cond (on_message p false (λ x. is_request x.class)) 1 0 + length w.requests ≡ 0 + length w.requests
+      go : (p : Option Message) → on_some p false (λ x. is_request x.class) ≡ false
+          → cond (on_some p false (λ x. is_request x.class)) 1 0 + length w.requests ≡ 0 + length w.requests
       go p f = rw f
   passed_keeps (carries (receives from clock)) e =
       let d = done rows w (carries (receives from clock)) m e in

@@ -31,8 +31,8 @@ use Rattle.requests.specs.declared.Polled.{Polled}
 use Rattle.requests.specs.declared.Polled.TheVariants.{TimedOut, Cancelled, WaitUntil}
 use Rattle.requests.proofs.Lists.{apart, neither}
 use Rattle.model.specs.World.{World}
-use Rattle.model.specs.Calls.{submits, sends, receives, transmits, reports, numbers, mean, unsettled, anew, Kind, carries, scans, names, meets, counts}
-use Rattle.model.specs.Accepts.{on_message, accepts}
+use Rattle.model.specs.Calls.{submits, sends, receives, transmits, reports, numbers, mean, unsettled, anew, Kind, carries, scans, names, meets, counts, on_some}
+use Rattle.model.specs.Accepts.{accepts}
 use Rattle.model.specs.Refusals.{is_request, refusal_of}
 use Rattle.model.specs.Effects.{transmit_answer, poll_answer, yes_or_no, sent_as, received_as, rtt_at, transmit_event, poll_event, event_by}
 use Rattle.model.specs.Says.{Said, says_of}
@@ -128,8 +128,8 @@ module _ (from : Address) (clock : Option ℕ) (m : List ℕ) where
 
   -- a message that is answered with yes where it is accepted
   heard_tallied : (rtt : Message → Option ℕ) (takes : Message → Bool) (p : Option Message) → message_of m ≡ p
-      → amounts_of (on_message p event.Nothing (λ x. cond (takes x) (received_as (length m) (rtt x) x.class) event.Nothing))
-      ≡ amounts_in (seen (carries (receives from clock)) m (on_message p answer.No (λ x. yes_or_no (takes x))))
+      → amounts_of (on_some p event.Nothing (λ x. cond (takes x) (received_as (length m) (rtt x) x.class) event.Nothing))
+      ≡ amounts_in (seen (carries (receives from clock)) m (on_some p answer.No (λ x. yes_or_no (takes x))))
   heard_tallied rtt takes None e = refl
   heard_tallied rtt takes (Some x) e = go (takes x)
     where
@@ -157,8 +157,8 @@ module _ (rows : ℕ) (w : World) (m : List ℕ) where
       let passes = (passed_exactly rows w (carries (sends to)) m).0 e in
       rw ((done rows w (carries (sends to)) m e).answer, answer_sends rows w m to) (go (message_of m) refl (passes BadMessage) (passes WrongClass))
     where
-      go : (p : Option Message) → message_of m ≡ p → on_message p true (λ x. false) ≡ false → on_message p false (λ x. is_request x.class) ≡ false
-          → amounts_of (on_message p event.Nothing (λ x. sent_as (length m) x.class)) ≡ amounts_in (seen (carries (sends to)) m answer.Ok)
+      go : (p : Option Message) → message_of m ≡ p → on_some p true (λ x. false) ≡ false → on_some p false (λ x. is_request x.class) ≡ false
+          → amounts_of (on_some p event.Nothing (λ x. sent_as (length m) x.class)) ≡ amounts_in (seen (carries (sends to)) m answer.Ok)
       go None e b c = apart b
       go (Some x) e b c = sent_tallied to m x e c
   tallied (carries (receives from clock)) kept e =
@@ -208,12 +208,12 @@ class_kept n rtt Indication = (refl, refl)
 class_kept n rtt Success = (refl, refl)
 class_kept n rtt Error = (refl, refl)
 
-sent_kept : (n : ℕ) (p : Option Message) → is_reset (on_message p event.Nothing (λ x. sent_as n x.class)) ≡ false
+sent_kept : (n : ℕ) (p : Option Message) → is_reset (on_some p event.Nothing (λ x. sent_as n x.class)) ≡ false
 sent_kept n None = refl
 sent_kept n (Some x) = (class_kept n None x.class).0
 
 heard_kept : (n : ℕ) (rtt : Message → Option ℕ) (takes : Message → Bool) (p : Option Message)
-    → is_reset (on_message p event.Nothing (λ x. cond (takes x) (received_as n (rtt x) x.class) event.Nothing)) ≡ false
+    → is_reset (on_some p event.Nothing (λ x. cond (takes x) (received_as n (rtt x) x.class) event.Nothing)) ≡ false
 heard_kept n rtt takes None = refl
 heard_kept n rtt takes (Some x) = go (takes x)
   where

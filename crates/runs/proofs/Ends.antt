@@ -4,7 +4,7 @@
 --     lives             a run as x has it
 --     fate              each accepted request is answered, reported timed out, reported cancelled or still in the table
 --     ends_counted      as numbers
-use Rattle.std.specs.Prelude.{None, Some, Option, is_none}
+use Rattle.std.specs.Prelude.{None, Some, Option, is_none, is_some}
 use Rattle.message.specs.declared.Message.{Message}
 use Prim.Native.Nat.{ℕ, ◌+◌}
 use mathlib.Core.Path.{◌≡◌, refl, sym, ap, ◌∙◌}
@@ -26,7 +26,6 @@ use Rattle.requests.specs.Search.{lookup, request_of}
 use Rattle.requests.proofs.Lists.{apart, none_some}
 use Rattle.model.specs.World.{World}
 use Rattle.model.specs.Calls.{submits, sends, receives, transmits, reports, Kind, carries, scans, names, meets, counts, on_some}
-use Rattle.model.specs.Accepts.{on_message, is_found}
 use Rattle.model.specs.Says.{refused_by, says_of}
 use Rattle.model.specs.Runs.{Turn, run}
 use Rattle.model.specs.declared.Answer.{Answer}
@@ -69,7 +68,7 @@ module _ (tr : Transport) (rto : RequestRto) (x : ℕ) (m : List ℕ) (a : Answe
 
   -- what `send_request` makes of another request
   pub submits_other : (o : Option StunRequestState) (to : Address) (now : ℕ) (p : Option Message) → hands_out_it x a ≡ false
-      → on_message p o (λ y. on_transmission a o (λ id row len. cond (eqb (key id) x) (Some (submitted now id y.integrity row len to rto)) o)) ≡ o
+      → on_some p o (λ y. on_transmission a o (λ id row len. cond (eqb (key id) x) (Some (submitted now id y.integrity row len to rto)) o)) ≡ o
   submits_other o to now (Some y) e = no_transmission x a o (λ id row len. Some (submitted now id y.integrity row len to rto)) e
   submits_other o to now None e = refl
 
@@ -143,11 +142,11 @@ module _ (rows x : ℕ) (w : World) (k : Kind) (m : List ℕ) where
 
 -- ---- a run
 
-found_some : (f : Option (ℕ × StunRequestState)) (q : StunRequestState) → request_of f ≡ Some q → is_found f ≡ true
+found_some : (f : Option (ℕ × StunRequestState)) (q : StunRequestState) → request_of f ≡ Some q → is_some f ≡ true
 found_some (Some (i, r)) q e = refl
 found_some None q e = none_some e
 
-found_none : (f : Option (ℕ × StunRequestState)) → request_of f ≡ None → is_found f ≡ false
+found_none : (f : Option (ℕ × StunRequestState)) → request_of f ≡ None → is_some f ≡ false
 found_none (Some (i, r)) e = none_some (sym e)
 found_none None e = refl
 
@@ -180,7 +179,7 @@ lives_from rows x (t ∷ ts) w = go (lookup x w.requests) refl (lives_from rows 
     go_present r o (Some how) h l = ends how (d.once r o) h (rest false (found_none (lookup x v.requests) (over_call rows x w (kind_in t) t.bytes how h)) l)
 
     go : (f : Option (ℕ × StunRequestState)) → lookup x w.requests ≡ f → Lives x (in_table x v) (history rows v ts) (in_table x (run rows v ts))
-        → Lives x (is_found f) (e ∷ history rows v ts) (in_table x (run rows v ts))
+        → Lives x (is_some f) (e ∷ history rows v ts) (in_table x (run rows v ts))
     go (Some (i, r)) f l = go_present r (ap request_of f) (end_of x e) refl l
     go None f l = go_absent (ap request_of f) (submits_it x e) refl l
 

@@ -34,7 +34,7 @@ use Rattle.requests.proofs.Transmits.{OtherKey, scanned, scanned_found, transmit
 use Rattle.requests.proofs.Polls.{Ended, Says, poll_says, poll_none}
 use Rattle.model.specs.World.{World, StateFormed, known}
 use Rattle.model.specs.Calls.{Meeting, ask, validate, Figure, numbers, mean, unsettled, anew, submits, sends, receives, transmits, reports, Wish, silence, cancel, configure, query, Kind, carries, scans, names, meets, counts, on_some}
-use Rattle.model.specs.Accepts.{on_message, is_response, accepts}
+use Rattle.model.specs.Accepts.{is_response, accepts}
 use Rattle.model.specs.Refusals.{refusal_of}
 use Rattle.model.specs.Effects.{on_found, keeps, removes, changed, reported, wished, yes_or_no, transmit_answer, poll_answer, wish_answer, meeting_answer, figure_answer}
 use Rattle.model.specs.Says.{Said, says_of}
@@ -93,7 +93,7 @@ choice_unsent x false = refl
 module _ (rows x : ℕ) (w : World) (m : List ℕ) where
   -- ---- only `send_request` and `poll_transmit` hand x out
 
-  heard_unsent : (p : Option Message) (takes : Message → Bool) → hands_out_it x (on_message p answer.No (λ y. yes_or_no (takes y))) ≡ false
+  heard_unsent : (p : Option Message) (takes : Message → Bool) → hands_out_it x (on_some p answer.No (λ y. yes_or_no (takes y))) ≡ false
   heard_unsent None takes = refl
   heard_unsent (Some y) takes = choice_unsent x (takes y)
 
@@ -168,12 +168,12 @@ module _ (rows x : ℕ) (w : World) (m : List ℕ) where
   -- ---- a received message
 
   module _ (from : Address) (clock : Option ℕ) (formed : StateFormed rows w) (e : refusal_of rows w (carries (receives from clock)) m ≡ None) where
-    answer_is : (says_of rows w (carries (receives from clock)) m).answer ≡ on_message (message_of m) answer.No (λ y. yes_or_no (accepts w.requests from y))
+    answer_is : (says_of rows w (carries (receives from clock)) m).answer ≡ on_some (message_of m) answer.No (λ y. yes_or_no (accepts w.requests from y))
     answer_is = (done rows w (carries (receives from clock)) m e).answer ∙ answer_receives rows w m from clock
 
     -- x is answered exactly where the call is said to handle it
     responds_is : (p : Option Message) (takes test : Message → Bool)
-        → (is_yes (on_message p answer.No (λ y. yes_or_no (takes y))) && on_message p false test) ≡ on_message p false (λ y. takes y && test y)
+        → (is_yes (on_some p answer.No (λ y. yes_or_no (takes y))) && on_some p false test) ≡ on_some p false (λ y. takes y && test y)
     responds_is None takes test = refl
     responds_is (Some y) takes test = go (takes y)
       where
@@ -185,7 +185,7 @@ module _ (rows x : ℕ) (w : World) (m : List ℕ) where
     handled_is = rw answer_is (responds_is (message_of m) (accepts w.requests from) (λ y. is_response y.class && eqb (key y.transaction_id) x))
 
     -- it was outstanding, and is no more
-    taken_out : (p : Option Message) → message_of m ≡ p → on_message p false (answers_to x w.requests from) ≡ true
+    taken_out : (p : Option Message) → message_of m ≡ p → on_some p false (answers_to x w.requests from) ≡ true
         → (request_of (lookup x w.requests) ≡ None → ⊥)
         × (request_of (lookup x (says_of rows w (carries (receives from clock)) m).world.requests) ≡ None)
     taken_out None r h = apart (sym h)
@@ -374,7 +374,7 @@ module _ (rows x : ℕ) (w : World) (m : List ℕ) where
 
   -- ---- a refused call
 
-  same_either : (p : Option Message) (o : Option StunRequestState) → o ≡ on_message p o (λ y. o)
+  same_either : (p : Option Message) (o : Option StunRequestState) → o ≡ on_some p o (λ y. o)
   same_either (Some y) o = refl
   same_either None o = refl
 

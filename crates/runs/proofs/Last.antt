@@ -38,8 +38,8 @@ use Rattle.requests.proofs.Search.{found_at}
 use Rattle.requests.proofs.Transmits.{NoneGoes, passed_by, walk_quiet, quiet_exactly}
 use Rattle.requests.proofs.Polls.{NoneEnds, Earliest, poll_waits, waits_exactly}
 use Rattle.model.specs.World.{World, StateFormed}
-use Rattle.model.specs.Calls.{submits as submits-at, sends as sends_other, receives, transmits, reports, Wish, silence, cancel, configure, query, Kind, carries, scans, names, meets, counts, settings_of, wish_settings}
-use Rattle.model.specs.Accepts.{on_message, is_response, accepts}
+use Rattle.model.specs.Calls.{submits as submits-at, sends as sends_other, receives, transmits, reports, Wish, silence, cancel, configure, query, Kind, carries, scans, names, meets, counts, settings_of, wish_settings, on_some}
+use Rattle.model.specs.Accepts.{is_response, accepts}
 use Rattle.model.specs.Refusals.{refusal_of}
 use Rattle.model.specs.Effects.{on_found, keeps, changed, taken, answered, reported, wished, transmit_answer, poll_answer}
 use Rattle.model.specs.Says.{Said, says_of}
@@ -251,7 +251,7 @@ abbrev PositiveIn : StunRequestState → Type 0
 PositiveIn r = Positive r.rto
 
 module _ (tr : Transport) (l : List StunRequestState) (h : All PositiveIn l) where
-  received_positive : (from : Address) (p : Option Message) → All PositiveIn (changed tr (on_message p keeps (answered l from)) l)
+  received_positive : (from : Address) (p : Option Message) → All PositiveIn (changed tr (on_some p keeps (answered l from)) l)
   received_positive from None = h
   received_positive from (Some y) = go (accepts l from y) (is_response y.class) (lookup (key y.transaction_id) l)
     where

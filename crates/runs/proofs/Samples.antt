@@ -42,8 +42,8 @@ use Rattle.requests.specs.declared.Polled.{Polled}
 use Rattle.requests.specs.declared.Polled.TheVariants.{TimedOut, Cancelled, WaitUntil}
 use Rattle.requests.proofs.Lists.{apart, some_same, none_some}
 use Rattle.model.specs.World.{World}
-use Rattle.model.specs.Calls.{submits, sends, receives, transmits, reports, Wish, silence, cancel, configure, query, numbers, mean, unsettled, anew, Kind, carries, scans, names, meets, counts}
-use Rattle.model.specs.Accepts.{on_message, is_response, accepts}
+use Rattle.model.specs.Calls.{submits, sends, receives, transmits, reports, Wish, silence, cancel, configure, query, numbers, mean, unsettled, anew, Kind, carries, scans, names, meets, counts, on_some}
+use Rattle.model.specs.Accepts.{is_response, accepts}
 use Rattle.model.specs.Refusals.{refusal_of}
 use Rattle.model.specs.Effects.{yes_or_no, sent_as, received_as, rtt_at, transmit_event, poll_event, event_by}
 use Rattle.model.specs.Says.{refused_by, says_of}
@@ -120,14 +120,14 @@ received_times n rtt Indication t = refl
 received_times n rtt Success t = refl
 received_times n rtt Error t = refl
 
-sent_message_times : (n : ℕ) (p : Option Message) (t : Times) → times_after (on_message p event.Nothing (λ x. sent_as n x.class)) t ≡ t
+sent_message_times : (n : ℕ) (p : Option Message) (t : Times) → times_after (on_some p event.Nothing (λ x. sent_as n x.class)) t ≡ t
 sent_message_times n (Some x) t = class_times n x.class t
 sent_message_times n None t = refl
 
 heard_times : (n : ℕ) (rtt : Message → Option ℕ) (takes : Message → Bool) (p : Option Message) (t : Times)
-    → times_after (on_message p event.Nothing (λ x. cond (takes x) (received_as n (rtt x) x.class) event.Nothing)) t
+    → times_after (on_some p event.Nothing (λ x. cond (takes x) (received_as n (rtt x) x.class) event.Nothing)) t
     ≡ timed_by
-    (cond (is_yes (on_message p answer.No (λ x. yes_or_no (takes x)))) (on_message p None (λ x. cond (is_response x.class) (rtt x) None)) None) t
+    (cond (is_yes (on_some p answer.No (λ x. yes_or_no (takes x)))) (on_some p None (λ x. cond (is_response x.class) (rtt x) None)) None) t
 heard_times n rtt takes None t = refl
 heard_times n rtt takes (Some x) t = go (takes x)
   where
@@ -151,7 +151,7 @@ measured_is (Some now) (Some (i, r)) = refl
 measured_is (Some now) None = refl
 
 read_same : (p : Option Message) (f g : Message → Option ℕ) → ((x : Message) → f x ≡ g x)
-    → on_message p None (λ x. cond (is_response x.class) (f x) None) ≡ on_message p None (λ x. cond (is_response x.class) (g x) None)
+    → on_some p None (λ x. cond (is_response x.class) (f x) None) ≡ on_some p None (λ x. cond (is_response x.class) (g x) None)
 read_same (Some x) f g e = ap (λ (t : Option ℕ). cond (is_response x.class) t None) (e x)
 read_same None f g e = refl
 
@@ -163,7 +163,7 @@ module _ (rows : ℕ) (w : World) (m : List ℕ) (left : Left) (agrees : (x : �
   passed_times (carries (receives from clock)) kept e t =
       rw ((done rows w (carries (receives from clock)) m e).answer, answer_receives rows w m from clock)
       (heard_times (length m) (λ y. rtt_at clock (lookup (key y.transaction_id) w.requests)) (accepts w.requests from) (message_of m) t
-      ∙ ap (λ (z : Option ℕ). timed_by (cond (is_yes (on_message (message_of m) answer.No (λ y. yes_or_no (accepts w.requests from y)))) z None) t)
+      ∙ ap (λ (z : Option ℕ). timed_by (cond (is_yes (on_some (message_of m) answer.No (λ y. yes_or_no (accepts w.requests from y)))) z None) t)
       (read_same (message_of m) (λ y. rtt_at clock (lookup (key y.transaction_id) w.requests))
       (λ y. measured clock (left (key y.transaction_id)))
       (λ y. measured_is clock (lookup (key y.transaction_id) w.requests) ∙ ap (measured clock) (agrees (key y.transaction_id)))))
@@ -383,8 +383,8 @@ module _ (rows x : ℕ) (s : Start) (before : List Turn) (q : Submission) (later
       sample_is answers yes-is = go (lookup x now_at.requests) refl
         where
           read : (p : StunRequestState) → left x ≡ Some p → (y : Option Message)
-              → on_message y false (λ z. is_response z.class && eqb (key z.transaction_id) x) ≡ true
-              → on_message y None (λ z. cond (is_response z.class) (measured (Some now) (left (key z.transaction_id))) None) ≡ rtt_of now p
+              → on_some y false (λ z. is_response z.class && eqb (key z.transaction_id) x) ≡ true
+              → on_some y None (λ z. cond (is_response z.class) (measured (Some now) (left (key z.transaction_id))) None) ≡ rtt_of now p
           read p f (Some z) h =
               let a = (and-eq-true_iff (is_response z.class) (eqb (key z.transaction_id) x)).0 h in
               let i : left (key z.transaction_id) ≡ Some p = ap left (eqb-true (key z.transaction_id) x a.1) ∙ f in

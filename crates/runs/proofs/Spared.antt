@@ -36,8 +36,8 @@ use Rattle.requests.proofs.Search.{found_at, lookup_added_other, lookup_removed_
 use Rattle.requests.proofs.Transmits.{OtherKey, transmit_none}
 use Rattle.requests.proofs.Polls.{Ended, Says, poll_says, poll_none}
 use Rattle.model.specs.World.{World, StateFormed}
-use Rattle.model.specs.Calls.{submits, sends as sends_other, receives, Scan, transmits, reports, Wish, silence, cancel, configure, query, Kind, carries, scans, names, meets, counts}
-use Rattle.model.specs.Accepts.{on_message, is_response, accepts}
+use Rattle.model.specs.Calls.{submits, sends as sends_other, receives, Scan, transmits, reports, Wish, silence, cancel, configure, query, Kind, carries, scans, names, meets, counts, on_some}
+use Rattle.model.specs.Accepts.{is_response, accepts}
 use Rattle.model.specs.Refusals.{refusal_of}
 use Rattle.model.specs.Effects.{on_found, keeps, removes, changed, taken, answered, reported, wished, transmit_answer, poll_answer, scan_answer, scan_change}
 use Rattle.model.specs.Says.{says_of}
@@ -83,8 +83,8 @@ refused_spares rows x w k b q e = record {
 }
 
 -- a response to another request, or one that isn't accepted
-received_keeps : (x : ℕ) (t : Transport) (l : List StunRequestState) (from : Address) (p : Option Message) → on_message p false (answers_to x l from) ≡ false
-    → request_of (lookup x (changed t (on_message p keeps (answered l from)) l)) ≡ request_of (lookup x l)
+received_keeps : (x : ℕ) (t : Transport) (l : List StunRequestState) (from : Address) (p : Option Message) → on_some p false (answers_to x l from) ≡ false
+    → request_of (lookup x (changed t (on_some p keeps (answered l from)) l)) ≡ request_of (lookup x l)
 received_keeps x t l from None h = refl
 received_keeps x t l from (Some y) h = go (accepts l from y) (is_response y.class) (lookup (key y.transaction_id) l) refl h
   where

@@ -9,7 +9,7 @@ use Rattle.message.specs.declared.MessageClass.TheVariants.{Request, Indication,
 use Rattle.stats.specs.declared.StunAgentStats.{StunAgentStats}
 use Rattle.model.specs.World.{World}
 use Rattle.model.specs.Calls.{Passage, submits, sends, receives, transmits, reports, Figure, numbers, mean, unsettled, anew, Kind, carries, scans, names, meets, counts, passage_of, figure_of, on_some}
-use Rattle.model.specs.Accepts.{on_message, is_response}
+use Rattle.model.specs.Accepts.{is_response}
 use Rattle.model.specs.Refusals.{is_request}
 use Rattle.model.specs.Says.{refused_by}
 use Rattle.model.specs.Runs.{Turn}
@@ -68,7 +68,7 @@ is_indication Error = false
 
 -- Whether its message has a class that passes a test.
 abbrev pub classed : (MessageClass → Bool) → Exchange → Bool
-classed test e = on_message (message_of e.bytes) false (λ x. test x.class)
+classed test e = on_some (message_of e.bytes) false (λ x. test x.class)
 
 -- ---- what one call adds to each counter
 

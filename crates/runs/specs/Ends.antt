@@ -1,12 +1,12 @@
 -- The life of a request in a run, by the run's calls and answers: it is accepted, and then answered, reported timed out, reported cancelled
 -- or still in the table, exactly one of them; after its end nothing of it is sent, until a request with its identifier is accepted again.
 -- Requests are told apart by their identifier as one number, x.
-use Rattle.std.specs.Prelude.{ℕ, ◌≡◌, Bool, true, false, cond, ◌&&◌, ◌⊎◌, List, [], ◌∷◌, ◌++◌, eqb, Option, None, Some}
+use Rattle.std.specs.Prelude.{ℕ, ◌≡◌, Bool, true, false, cond, ◌&&◌, ◌⊎◌, List, [], ◌∷◌, ◌++◌, eqb, Option, None, Some, is_some}
 use Rattle.message.specs.Head.{key}
 use Rattle.message.specs.Attributes.{message_of}
 use Rattle.model.specs.World.{World}
 use Rattle.model.specs.Calls.{submits, sends, receives, transmits, reports, Kind, carries, scans, names, meets, counts, on_some}
-use Rattle.model.specs.Accepts.{on_message, is_response, is_found}
+use Rattle.model.specs.Accepts.{is_response}
 use Rattle.model.specs.declared.Answer.{Answer}
 use Rattle.requests.specs.Search.{lookup}
 use Rattle.runs.specs.Run.{hands_out_it}
@@ -40,7 +40,7 @@ pub data End : Type 0 where
 
 -- A message that is a response to x.
 abbrev pub responds_to : ℕ → List ℕ → Bool
-responds_to x m = on_message (message_of m) false (λ y. is_response y.class && eqb (key y.transaction_id) x)
+responds_to x m = on_some (message_of m) false (λ y. is_response y.class && eqb (key y.transaction_id) x)
 
 -- How `poll` reports x.
 abbrev pub report_end : ℕ → Answer → Option End
@@ -77,7 +77,7 @@ pub data Lives (x : ℕ) : Bool → List Exchange → Bool → Type 0 where
 
 -- Whether x is in the table.
 abbrev pub in_table : ℕ → World → Bool
-in_table x w = is_found (lookup x w.requests)
+in_table x w = is_some (lookup x w.requests)
 
 -- ---- an accepted request, by the calls after it
 

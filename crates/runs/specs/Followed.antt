@@ -10,7 +10,6 @@ use Rattle.request.specs.Request.{submitted, silenced, cancelled, configured, tr
 use Rattle.request.specs.Answers.{record_after}
 use Rattle.request.specs.declared.StunRequestState.{StunRequestState}
 use Rattle.model.specs.Calls.{Passage, submits, sends, receives, Scan, transmits, reports, Wish, silence, cancel, configure, query, Kind, carries, scans, names, meets, counts, on_some}
-use Rattle.model.specs.Accepts.{on_message}
 use Rattle.model.specs.Says.{refused_by}
 use Rattle.model.specs.declared.Answer.{Answer}
 use Rattle.model.specs.declared.Answer.TheVariants as answer
@@ -49,7 +48,7 @@ mapped o f = on_some o None (λ r. Some (f r))
 module _ (tr : Transport) (rto : RequestRto) (x : ℕ) where
   abbrev pub passage_followed : Passage → List ℕ → Answer → Option StunRequestState → Option StunRequestState
   passage_followed (submits to now) m a o =
-      on_message (message_of m) o (λ y.
+      on_some (message_of m) o (λ y.
       on_transmission a o (λ id row len. cond (eqb (key id) x) (Some (submitted now id y.integrity row len to rto)) o))
   passage_followed (sends to) m a o = o
   passage_followed (receives from clock) m a o = cond (is_yes a && responds_to x m) None o

@@ -8,7 +8,7 @@ use Rattle.message.specs.declared.Message.{Message}
 use Rattle.request.specs.declared.StunRequestState.{StunRequestState}
 use Rattle.model.specs.World.{World}
 use Rattle.model.specs.Calls.{Passage, submits, sends as sends_other, receives, Scan, transmits, reports, Wish, silence, cancel, configure, query, Kind, carries, scans, names, meets, counts, kind_of, on_some}
-use Rattle.model.specs.Accepts.{on_message, is_response, accepts}
+use Rattle.model.specs.Accepts.{is_response, accepts}
 use Rattle.model.specs.Refusals.{refusal_of}
 use Rattle.model.specs.Says.{Said, says_of}
 use Rattle.model.specs.Runs.{Turn}
@@ -87,9 +87,9 @@ alters query = false
 
 -- "Answered, cancelled in either way, reconfigured or submitted again": what a call that isn't refused does to the request x.
 abbrev pub passage_handles : ℕ → World → Passage → List ℕ → Bool
-passage_handles x w (submits to now) m = on_message (message_of m) false (λ y. eqb (key y.transaction_id) x)
+passage_handles x w (submits to now) m = on_some (message_of m) false (λ y. eqb (key y.transaction_id) x)
 passage_handles x w (sends_other to) m = false
-passage_handles x w (receives from clock) m = on_message (message_of m) false (answers_to x w.requests from)
+passage_handles x w (receives from clock) m = on_some (message_of m) false (answers_to x w.requests from)
 
 abbrev pub handles : ℕ → World → Kind → List ℕ → Bool
 handles x w (carries p) m = passage_handles x w p m

@@ -12,7 +12,7 @@ use Rattle.stats.specs.declared.StunAgentStats.{StunAgentStats}
 use Rattle.request.specs.Times.{is_due, rtt_of}
 use Rattle.request.specs.declared.StunRequestState.{StunRequestState}
 use Rattle.model.specs.Calls.{Passage, submits, sends, receives, transmits, reports, Kind, carries, scans, names, meets, counts, passage_of, on_some}
-use Rattle.model.specs.Accepts.{on_message, is_response}
+use Rattle.model.specs.Accepts.{is_response}
 use Rattle.model.specs.declared.Answer.{Answer}
 use Rattle.runs.specs.Answers.{is_yes}
 use Rattle.runs.specs.Counts.{Exchange, one, stopped, Counters}
@@ -33,7 +33,7 @@ abbrev pub passage_sample : Left → List ℕ → Answer → Passage → Option 
 passage_sample left m a (submits to now) = None
 passage_sample left m a (sends to) = None
 passage_sample left m a (receives from clock) =
-    cond (is_yes a) (on_message (message_of m) None (λ y. cond (is_response y.class) (measured clock (left (key y.transaction_id))) None)) None
+    cond (is_yes a) (on_some (message_of m) None (λ y. cond (is_response y.class) (measured clock (left (key y.transaction_id))) None)) None
 
 abbrev pub sample_of : Left → Exchange → Option ℕ
 sample_of left e = on_some (passage_of e.about) None (passage_sample left e.bytes e.answer)

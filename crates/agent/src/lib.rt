@@ -72,7 +72,7 @@ pub fn stats(builder: StunAgentBuilder, stats: bool) -> StunAgentBuilder
     StunAgentBuilder { stats, ..builder }
 }
 
-#[tactic(auto, unfolding(model::specs::Fresh::build_of))]
+#[tactic(auto, using(model::proofs::Default::build_fresh, model::proofs::Default::build_refused))]
 pub fn build(builder: StunAgentBuilder) -> Result<(StunAgent, Event), Refusal>
     ensures { result ≡ build_of builder }
 {

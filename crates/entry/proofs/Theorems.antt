@@ -13,11 +13,10 @@ use Rattle.model.specs.declared.Refusal.TheVariants.{Settings, State}
 use Rattle.std.specs.Prelude.{None, Some, Result, Err}
 use Prim.Native.Nat.{ℕ, ◌≤◌, ◌<◌}
 use mathlib.Core.Path.{◌≡◌, refl, sym, ap, subst, ◌∙◌}
-use mathlib.Core.Bool.{true, false}
+use mathlib.Core.Bool.{Bool, true, false}
 use mathlib.Core.Logic.{◌↔◌}
 use mathlib.Core.List.{List}
 use Rattle.std.proofs.Common.{arith}
-use Rattle.std.proofs.lemmas.Grind.{common_steps}
 use lib.ListN.{length, get_or}
 use Rattle.address.specs.declared.Address.{Address}
 use Rattle.waits.specs.Waits.{within_limits}
@@ -145,8 +144,11 @@ module _ (b : StunAgentBuilder) (st st' : StunAgentStats) (r : Result (StunAgent
   start_zeroed within on = records_by (build_fresh b within) ∙ rw on (sym (reset st))
 
   pub start_off : b.stats ≡ false → st' ≡ st
-  unfolding build_of
-  start_off off = let says = p.says in let records = p.records in let same = nothing st in grind (arith, common_steps)
+  start_off off = go (within_limits b.rto) refl
+    where
+      go : (t : Bool) → within_limits b.rto ≡ t → st' ≡ st
+      go true within = records_by (build_fresh b within) ∙ rw off (sym (nothing st))
+      go false past = records_by (build_refused b past) ∙ sym (nothing st)
 
   pub start_refused : within_limits b.rto ≡ false → (r ≡ Err Settings) × (st' ≡ st)
   start_refused past = (p.says ∙ build_refused b past, records_by (build_refused b past) ∙ sym (nothing st))

@@ -14,7 +14,10 @@ use Rattle.message.specs.declared.TransactionId.{TransactionId}
 use Rattle.stats.specs.declared.StunAgentStats.{StunAgentStats}
 use Rattle.model.specs.declared.Answer.{Answer}
 use Rattle.model.specs.declared.Answer.TheVariants as answer
-use Rattle.line.specs.Lines.{glyph, digits, decimal_in, decimal_of, id_text, field_of, rtt_text, integrity_text, stats_text, answer_text, reply_text, line_of}
+use Rattle.line.specs.Lines.{glyph, digits, decimal_in, decimal_of, id_text, field_of, rtt_text, integrity_text, stats_text, answer_text, reply_text, line_of, refused_text, said_text, line_by}
+use Rattle.line.specs.declared.Reply.{Reply}
+use Rattle.line.specs.declared.Reply.TheVariants.{Told, Refused}
+use Rattle.line.proofs.Replies.{whole_line}
 
 digits_length : (b k n : ℕ) → length (digits b k n) ≡ k
 unfolding digits
@@ -102,6 +105,15 @@ unfolding reply_text
 reply_length (Some a) = answer_length a
 reply_length None = omega arith
 
+said_length : (r : Reply) → length (said_text r) ≤ 299
+unfolding refused_text
+said_length (Told r) = reply_length r
+said_length (Refused q) = omega (arith, field_length q)
+
+pub line_by_length : (n : ℕ) (r : Reply) → length (line_by n r) ≤ 321
+line_by_length n r =
+    let k = joined (said_text r) (10 ∷ []) 299 1 (said_length r) (omega arith) in
+    rw (← whole_line n r) (joined (decimal_of n) _ 20 301 (decimal_length n) (omega (arith, k)))
+
 pub line_length : (n : ℕ) (r : Option Answer) → length (line_of n r) ≤ 321
-unfolding line_of
-line_length n r = joined (decimal_of n) _ 20 301 (decimal_length n) (let k = joined (reply_text r) (10 ∷ []) 299 1 (reply_length r) (omega arith) in omega (arith, k))
+line_length n r = line_by_length n (Told r)

@@ -8,6 +8,8 @@ use Rattle.message.specs.declared.TransactionId.{TransactionId}
 use Rattle.stats.specs.declared.StunAgentStats.{StunAgentStats}
 use Rattle.model.specs.declared.Answer.{Answer}
 use Rattle.model.specs.declared.Answer.TheVariants as answer
+use Rattle.line.specs.declared.Reply.{Reply}
+use Rattle.line.specs.declared.Reply.TheVariants as reply
 
 -- A text put into a buffer at a place: each of its bytes that the buffer has a place for, and every other byte as it was. The next place,
 -- or one past the end where the text did not fit.
@@ -84,3 +86,19 @@ reply_text None = 98 ∷ 97 ∷ 100 ∷ []
 -- "One line a record: its number from 1", and what it says.
 unfoldable pub line_of : ℕ → Option Answer → List ℕ
 line_of n r = decimal_of n ++ (32 ∷ (reply_text r ++ (10 ∷ [])))
+
+-- "`refused NUMBER`", of any number.
+unfoldable pub refused_text : ℕ → List ℕ
+refused_text q = 114 ∷ 101 ∷ 102 ∷ 117 ∷ 115 ∷ 101 ∷ 100 ∷ field_of q
+
+unfoldable pub refused_line : ℕ → ℕ → List ℕ
+refused_line n q = decimal_of n ++ (32 ∷ (refused_text q ++ (10 ∷ [])))
+
+-- What is put for a reply, and its whole line.
+abbrev pub said_text : Reply → List ℕ
+said_text (reply.Told r) = reply_text r
+said_text (reply.Refused q) = refused_text q
+
+abbrev pub line_by : ℕ → Reply → List ℕ
+line_by n (reply.Told r) = line_of n r
+line_by n (reply.Refused q) = refused_line n q

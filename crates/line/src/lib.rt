@@ -4,7 +4,7 @@
 #![tactic(auto)]
 
 ghost use Rattle.std.specs.Prelude.{◌≡◌, ◌+◌, ◌≤◌, ◌<◌, ◌++◌, ◌∷◌, [], length, min};
-ghost use Rattle.line.specs.Lines.{Puts, line_of};
+ghost use Rattle.line.specs.Lines.{Puts, line_by};
 
 use itoa::Buffer;
 use message::{IntegrityAlgorithm, TransactionId};
@@ -13,6 +13,13 @@ use stats::StunAgentStats;
 
 // No line is longer: its number and 14 fields of `stats`, of 20 digits each (proofs/Lengths).
 pub const LONGEST_LINE: usize = 321;
+
+// What a line says: the agent's answer, or `bad` where there is none; or a refusal by any number, as a host may have some of its own.
+#[derive(Clone, Copy, Debug, PartialEq, Eq)]
+pub enum Reply {
+    Told(Option<Answer>),
+    Refused(u64),
+}
 
 // A lent buffer, and the place in it where the next text goes.
 // Methods and not `Display`: `write!` promises its text only on `Ok`, and a line is promised always, so the proof of `id` didn't close.
@@ -25,7 +32,7 @@ struct Text<'a> {
 
 impl<'a> Text<'a> {
     ghost use Rattle.line.specs.Lines.{decimal_of, digits, id_text, field_of, rtt_text, integrity_text, stats_text};
-    ghost use Rattle.line.specs.Lines.{answer_text, reply_text};
+    ghost use Rattle.line.specs.Lines.{answer_text, reply_text, refused_text, said_text};
     ghost use Rattle.line.specs.Texts.{Adds};
 
     fn new(out: &'a mut [u8], at: usize) -> Text<'a>
@@ -188,17 +195,33 @@ impl<'a> Text<'a> {
             None => self.bytes(b"bad"),
         }
     }
+
+    #[tactic(auto, unfolding(crate::specs::Lines::refused_text))]
+    fn refused(&mut self, number: u64)
+        ensures { Adds self.old (refused_text number) self.new }
+    {
+        self.counted(b"refused", number)
+    }
+
+    fn said(&mut self, reply: Reply)
+        ensures { Adds self.old (said_text reply) self.new }
+    {
+        match reply {
+            Reply::Told(reply) => self.reply(reply),
+            Reply::Refused(number) => self.refused(number),
+        }
+    }
 }
 
 // A whole line: its number, the reply, the line feed. The place afterwards is a number, one past the end where the line doesn't fit: what
 // this promises may not change.
-pub fn put_line(out: &mut [u8], at: usize, number: u64, reply: Option<Answer>) -> usize
-    ensures { Puts out.old at (line_of number reply) out.new result }
+pub fn put_line(out: &mut [u8], at: usize, number: u64, reply: Reply) -> usize
+    ensures { Puts out.old at (line_by number reply) out.new result }
 {
     let mut text = Text::new(out, at);
     text.decimal(number);
     text.byte(b' ');
-    text.reply(reply);
+    text.said(reply);
     text.byte(b'\n');
     text.at
 }

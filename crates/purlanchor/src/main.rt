@@ -4,7 +4,7 @@
 
 ghost use Rattle.std.specs.Prelude.{◌≡◌, ◌+◌, ◌≤◌, length, IfSome, Ok};
 
-use line::LONGEST_LINE;
+use line::{LONGEST_LINE, Reply};
 use model::Answer;
 use replay::Standing;
 use std::env::{Env, FillError};
@@ -53,16 +53,21 @@ impl Unread {
     }
 
     // Reads once behind what is there; how many bytes came.
-    fn fill<R: Read>(&mut self, trace: &mut R) -> io::Result<usize> {
+    fn fill<R: Read>(&mut self, trace: &mut R) -> io::Result<usize>
+        ensures { self.old.len ≤ self.new.len }
+    {
         let n = trace.read(&mut self.buf[self.len..])?;
         self.len += n;
         Ok(n)
     }
 
-    // Moves what stands behind the used bytes to the front.
+    // Moves what stands behind the used bytes to the front. Where none was used, as when a record comes in many reads, all stays where it is.
     fn consume(&mut self, used: usize)
         requires { used ≤ self.old.len }
     {
+        if used == 0 {
+            return;
+        }
         let left = self.len - used;
         self.buf[..].copy_within(used..self.len, 0);
         self.len = left;
@@ -97,7 +102,7 @@ impl Replay {
     fn put_line(&mut self, reply: Option<Answer>)
         requires { self.old.put + 321 ≤ 65536 }
     {
-        self.put = line::put_line(&mut self.out, self.put, self.number, reply);
+        self.put = line::put_line(&mut self.out, self.put, self.number, Reply::Told(reply));
     }
 
     // All records that stand whole in a part of the trace, while there is room for any line: a turn that was taken can't be taken back.

@@ -2,16 +2,16 @@
 use Rattle.std.specs.Prelude.{Option, None, Some, is_some}
 use Rattle.message.specs.declared.IntegrityAlgorithm.{IntegrityAlgorithm}
 use Rattle.message.specs.declared.IntegrityAlgorithm.TheVariants.{Sha1, Sha256}
-use Prim.Native.Nat.{ℕ, ◌/◌, ◌%◌, ◌≤◌}
-use mathlib.Core.Path.{◌≡◌, refl, ap, ap₂}
+use Prim.Native.Nat.{ℕ, ◌+◌, ◌*◌, ◌^◌, ◌/◌, ◌%◌, ◌≤◌, ◌<◌}
+use mathlib.Core.Path.{◌≡◌, refl, ap, ap₂, ◌∙◌}
 use mathlib.Core.Bool.{Bool, true, false}
-use mathlib.Core.List.{List, append_assoc}
+use mathlib.Core.List.{List}
 use native.Mathlib.Nat.{mod-eq_of_lt}
 use native.Mathlib.Omega.{arith}
 use lib.Dec.{eqb}
-use lib.ListN.{length}
-use lib.Seq.{drop-drop}
-use Rattle.rows.specs.Rows.{put_at}
+use lib.ListN.{length, get_or}
+use Rattle.rows.specs.Rows.{row, put_at}
+use Rattle.rows.proofs.Rows.{row_word, mid_put}
 use borrow.Rule.Slice.PartMut.{put_mid}
 use Rattle.address.specs.declared.Host.{Host}
 use Rattle.address.specs.declared.Host.TheVariants.{V4, V6}
@@ -85,8 +85,12 @@ pub length_encode : (r : StunRequestState) → length (encode r) ≡ width
 unfolding encode
 length_encode r = refl
 
+-- The low part of an identifier that was read fits 64 bits where the words do.
+pub low_fits : (t : List ℕ) → ((j : ℕ) → get_or t j 0 < 2 ^ 64) → (i : ℕ) → (decode (row width t i)).transaction_id.lo < 2 ^ 64
+unfolding decode decode_by
+low_fits t fits i = rw (row_word width t i 1 0 (omega arith)) (fits (i * width + 1))
+
 -- ---- a row of k words written
 pub row_written : (t : List ℕ) (b k : ℕ) (ws words : List ℕ) (r : StunRequestState) → k ≡ width → ws ≡ words → words ≡ encode r
     → put_mid b k t ws ≡ put_at t b (encode r)
-unfolding put_at
-row_written t b k ws words r e f g = rw (e, f, g, length_encode r, drop-drop width b t, append_assoc)
+row_written t b k ws words r e f g = mid_put t b k ws (rw (e, f, g, length_encode r)) ∙ rw (f, g)

@@ -165,7 +165,7 @@ fn words_of(r: StunRequestState) -> [u64; WIDTH]
 // ---- rows of the table
 // Each asks the same of the slice by a clause: a type of 576 words would shut out a host that lends more, and a struct around the slice
 // would be made anew at each call, since the table's other functions lend the words on.
-#[tactic(auto, unfolding(rows::specs::Rows::row))]
+#[tactic(auto, using(rows::proofs::Rows::part_row))]
 fn row_at(t: &[u64], i: usize) -> &[u64; WIDTH]
     requires { (i < 32) × (size ≤ length t.now) }
     ensures { result.now ≡ row width t.now i }
@@ -190,6 +190,18 @@ pub fn load(t: &[u64], i: usize) -> StunRequestState
     request_of(row_at(t, i))
 }
 
+// The request r as the words of a row that is lent. As one array and no copy of a slice: the words then go where they stand.
+#[inline]
+fn write(row: &mut [u64], r: StunRequestState)
+    requires { length row.old ≡ width }
+    ensures { (row.new ≡ encode r) × (decode (encode r) ≡ r) }
+{
+    let Some(row) = row.as_mut_array::<WIDTH>() else {
+        unreachable!();
+    };
+    *row = words_of(r);
+}
+
 // The request r written to row i; no other word changes, and reading the row gives r back.
 // Inline: out of line a scan over 32 requests takes 6% more instructions.
 #[inline]
@@ -198,5 +210,5 @@ pub fn put(t: &mut [u64], i: usize, r: StunRequestState)
     ensures { Put t.old t.new i r }
 {
     let b = i * WIDTH;
-    t[b..b + WIDTH].copy_from_slice(&words_of(r));
+    write(&mut t[b..b + WIDTH], r);
 }

@@ -7,6 +7,7 @@ ghost use Rattle.replay.specs.Lent.{stop_of, Plays, Begins, first_standing};
 
 use address::{Address, Host};
 use entry::Held;
+use line::Reply;
 use model::{Answer, StunAgent};
 use record::Record;
 use stats::StunAgentStats;
@@ -133,7 +134,7 @@ fn lines(trace: &[u8], table: &mut [u64], store: &mut [u8], out: &mut [u8]) -> u
     while at < trace.len() {
         let t = next_turn(standing, &trace[at..], table, store);
         standing = t.standing;
-        let end = line::put_line(out, put, number, t.reply);
+        let end = line::put_line(out, put, number, Reply::Told(t.reply));
         if out.len() < end {
             return put;
         }

@@ -1,6 +1,7 @@
 -- Words as rows, for rows of any width w and lists of any length.
 --     rows_next, length_rows, joined_rows    the rows one by one, how many, and put together again
 --     row_word                               a word of a row
+--     part_row, mid_put                      a part of a slice as a row, and a part that was written
 --     rows_put, drop_put, length_put         one row written
 --     put_put, sets_put                      stores side by side are one
 --     held                                   words from the rows that they hold and what is behind
@@ -14,11 +15,21 @@ use native.Mathlib.Numerals.{add-one}
 use native.Mathlib.Omega.{arith}
 use lib.ListN.{length, take, drop, get_or, set, length-append, length-drop, take-append-drop}
 use lib.Seq.{get_or-take, get_or-drop, take-add, drop-drop, take_at, drop_at, drop-append-le, length-take-le, take-take, sets, sets-eq}
+use borrow.Rule.Slice.PartMut.{put_mid}
 use Rattle.rows.proofs.Lists.{slice_drop}
 use Rattle.rows.specs.Lists.{insert_at, remove_at}
 use Rattle.rows.specs.Rows.{row, rows, joined, put_at, with_rows}
 
+-- ---- a part of a slice
+pub part_row : (w : ℕ) (t : List ℕ) (i : ℕ) → take w (drop (i * w) t) ≡ row w t i
+unfolding row
+part_row w t i = refl
+
 -- ---- writing
+pub mid_put : (t : List ℕ) (b k : ℕ) (ws : List ℕ) → k ≡ length ws → put_mid b k t ws ≡ put_at t b ws
+unfolding put_at
+mid_put t b k ws e = rw (e, drop-drop (length ws) b t, append_assoc)
+
 module _ (t : List ℕ) (b : ℕ) (ws : List ℕ) (h : b + length ws ≤ length t) where
   front : length (take b t) ≡ b
   front = length-take-le b t (omega arith)

@@ -1,4 +1,4 @@
--- Laws about the definitions of specs/. `Arms` serves this crate's proofs.
+-- Laws about the definitions of specs/.
 pub mod Query
 pub mod Fields
 pub mod Times

@@ -88,44 +88,53 @@ impl StunAgentStats {
     {
         match event {
             Event::Nothing => self,
+            // `record_request_sent`
             Event::RequestSent(bytes) => Self {
                 requests_sent: self.requests_sent.saturating_add(1),
                 bytes_sent: self.bytes_sent.saturating_add(bytes),
                 ..self
             },
+            // `record_request_received`
             Event::RequestReceived(bytes) => Self {
                 requests_received: self.requests_received.saturating_add(1),
                 bytes_received: self.bytes_received.saturating_add(bytes),
                 ..self
             },
+            // `record_indication_sent`
             Event::IndicationSent(bytes) => Self {
                 indications_sent: self.indications_sent.saturating_add(1),
                 bytes_sent: self.bytes_sent.saturating_add(bytes),
                 ..self
             },
+            // `record_indication_received`
             Event::IndicationReceived(bytes) => Self {
                 indications_received: self.indications_received.saturating_add(1),
                 bytes_received: self.bytes_received.saturating_add(bytes),
                 ..self
             },
+            // `record_response_sent`
             Event::ResponseSent(bytes) => Self {
                 responses_sent: self.responses_sent.saturating_add(1),
                 bytes_sent: self.bytes_sent.saturating_add(bytes),
                 ..self
             },
+            // `record_response_received`
             Event::ResponseReceived(bytes, rtt) => Self {
                 responses_received: self.responses_received.saturating_add(1),
                 bytes_received: self.bytes_received.saturating_add(bytes),
                 ..self.record_rtt(rtt)
             },
+            // `record_retransmit_bytes`
             Event::RetransmitBytes(bytes) => Self {
                 bytes_sent: self.bytes_sent.saturating_add(bytes),
                 ..self
             },
+            // `record_timeout`
             Event::TimedOut => Self {
                 transactions_timed_out: self.transactions_timed_out.saturating_add(1),
                 ..self
             },
+            // `record_cancelled`
             Event::Cancelled => Self {
                 transactions_cancelled: self.transactions_cancelled.saturating_add(1),
                 ..self

@@ -24,13 +24,23 @@ fn place(store: &[u8], row: usize, len: usize) -> Option<Range<usize>>
     }
 }
 
+// One byte after the other, and no `copy_from_slice`: of that the compiler makes a `memmove`, which an archive for C then asks of its host.
+fn copy_over(to: &mut [u8], from: &[u8])
+    requires { length to.old ≡ length from.now }
+    ensures { to.new ≡ from.now }
+{
+    for i in 0..from.len() {
+        to[i] = from[i];
+    }
+}
+
 // Copies a message to a row's start. Where it doesn't fit, nothing changes: the agent has refused such a message before.
 #[tactic(auto, using(crate::proofs::Copies::copy_some), unfolding(crate::specs::Rows::copied))]
 pub fn copy(store: &mut [u8], row: usize, bytes: &[u8])
     ensures { store.new ≡ copied 32 store.old row bytes.now }
 {
     if let Some(at) = place(store, row, bytes.len()) {
-        store[at].copy_from_slice(bytes);
+        copy_over(&mut store[at], bytes);
     }
 }
 

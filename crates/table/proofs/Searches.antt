@@ -5,7 +5,7 @@
 use Rattle.std.specs.Prelude.{Option, None, Some}
 use Rattle.std.specs.Option.{MatchOption, unwrap_or, option_map}
 use Rattle.std.specs.Ordering.{partial_ge}
-use Prim.Native.Nat.{ℕ, zero, suc, ◌+◌, ◌*◌, ◌^◌, ◌≤◌, ◌<◌}
+use Prim.Native.Nat.{ℕ, zero, suc, ◌^◌, ◌≤◌, ◌<◌}
 use mathlib.Core.Path.{◌≡◌, refl, sym, ap, ◌∙◌}
 use mathlib.Core.Bool.{Bool, true, false, not, ◌&&◌}
 use mathlib.Core.List.{List}
@@ -18,9 +18,9 @@ use Rattle.message.specs.declared.TransactionId.{TransactionId}
 use Rattle.message.specs.contracts.TransactionIdPartialOrd.TheImpl.{partial_cmp-value}
 use Rattle.message.proofs.Identifiers.{eq_by_key, ge_by_key}
 use Rattle.rows.specs.Rows.{row}
-use Rattle.rows.proofs.Rows.{row_word}
-use Rattle.records.specs.Coding.{width, decode, decode_by}
+use Rattle.records.specs.Coding.{width, decode}
 use Rattle.records.specs.Live.{live}
+use Rattle.records.proofs.Coding.{low_fits}
 use Rattle.records.proofs.Live.{live_next, live_end}
 use Rattle.requests.specs.Search.{lookup, lookup_from, place_of, place_from}
 
@@ -40,15 +40,11 @@ module _ (t : List ℕ) where
 
   -- the words fit, and so does an identifier that was read
   module _ (fits : (j : ℕ) → get_or t j 0 < 2 ^ 64) (b : TransactionId) (low : b.lo < 2 ^ 64) (i : ℕ) where
-    low_at : (id_of i).lo < 2 ^ 64
-    unfolding decode decode_by
-    low_at = rw (row_word width t i 1 0 (omega arith)) (fits (i * width + 1))
-
     pub eq_at : (r : Bool) → r ≡ (eqb (id_of i).hi b.hi && eqb (id_of i).lo b.lo) → HasKey (key b) r i
-    eq_at r e = eq_by_key (id_of i) b low_at low ∙ sym e
+    eq_at r e = eq_by_key (id_of i) b (low_fits t fits i) low ∙ sym e
 
     pub ge_at : (r : Bool) → r ≡ partial_ge partial_cmp-value.it (id_of i) b → IsBelow (key b) (not r) i
-    ge_at r e = ge_by_key (id_of i) b low_at low ∙ ap not (sym e)
+    ge_at r e = ge_by_key (id_of i) b (low_fits t fits i) low ∙ ap not (sym e)
 
   module _ (n k : ℕ) where
     lookup_up : (i : ℕ) → i ≤ n → ((j : ℕ) → 0 ≤ j → j < i → HasKey k false j) → lookup k (live n t) ≡ lookup_from i k (drop i (live n t))

@@ -2,12 +2,12 @@
 // class, method, identifier and integrity, or `bad`. The file stdout beside this says what RFC 5769 and RFC 8489 want there.
 #![tactic(auto)]
 
-ghost use Rattle.std.specs.Prelude.{◌≤◌, ◌<◌};
+ghost use Rattle.std.specs.Prelude.{◌≤◌, length, IfOk};
 
 use message::{IntegrityAlgorithm, Message, MessageClass, TransactionId};
 use std::fs::File;
 use std::io;
-use std::io::{Read, Write};
+use std::io::{ErrorKind, Read, Write};
 use std::rt::Files;
 
 // What a hexadecimal digit in lower case stands for; `to_digit` would take capitals too.
@@ -19,9 +19,11 @@ fn digit(c: u8) -> Option<u8> {
     }
 }
 
-// The bytes that a text of hexadecimal digits spells, other characters being passed, as many as fit. What is counted is how many were put,
-// as in `load`: the `for` ends early.
-fn unhex<'a>(text: &[u8], out: &'a mut [u8]) -> &'a [u8] {
+// The bytes that a text of hexadecimal digits spells, other characters being passed, as many as fit. What is counted is how many were put:
+// the `for` ends early.
+fn unhex<'a>(text: &[u8], out: &'a mut [u8]) -> &'a [u8]
+    ensures { length result.now ≤ length out.old }
+{
     let mut digits = text.iter().filter_map(|c| digit(*c));
     let mut n = 0;
     for byte in out.iter_mut() {
@@ -34,8 +36,28 @@ fn unhex<'a>(text: &[u8], out: &'a mut [u8]) -> &'a [u8] {
     &out[..n]
 }
 
+// The bytes up to the end of the input or of the buffer. A read that a signal interrupts is tried again.
+// No `bytes()` of the file: it asks the system for each byte by itself.
+fn read_full<'a, R: Read>(from: &mut R, text: &'a mut [u8]) -> io::Result<&'a [u8]>
+    ensures { IfOk result (λ part. length part.now ≤ length text.old) }
+{
+    let mut n = 0;
+    for _ in 0..u64::MAX {
+        if n >= text.len() {
+            break;
+        }
+        match from.read(&mut text[n..]) {
+            Ok(0) => break,
+            Ok(got) => n += got,
+            Err(e) if e.kind() == ErrorKind::Interrupted => {}
+            Err(e) => return Err(e),
+        }
+    }
+    Ok(&text[..n])
+}
+
 fn load<'a, R: Files + Eprint>(rt: &R, path: &str, out: &'a mut [u8]) -> io::Result<&'a [u8]> {
-    let file = match File::open(rt, path) {
+    let mut file = match File::open(rt, path) {
         Ok(file) => file,
         Err(e) => {
             eprintln!(rt; "{path}: {e}")?;
@@ -43,16 +65,7 @@ fn load<'a, R: Files + Eprint>(rt: &R, path: &str, out: &'a mut [u8]) -> io::Res
         }
     };
     let mut text = [0u8; 1024];
-    let mut bytes = file.bytes();
-    let mut n = 0;
-    for place in text.iter_mut() {
-        let Some(byte) = bytes.next() else {
-            break;
-        };
-        *place = byte?;
-        n += 1;
-    }
-    Ok(unhex(&text[..n], out))
+    Ok(unhex(read_full(&mut file, &mut text)?, out))
 }
 
 // The names of both are this program's: `Display` would be the other crate's to have, and it prints nothing.
